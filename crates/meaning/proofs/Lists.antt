@@ -1,0 +1,170 @@
+-- Members of the lists that the definitions make, and lists that have none.
+use mathlib.Core.Path.{_≡_, refl, sym, ap, subst, _∙_}
+use mathlib.Core.Logic.{_⊎_, inl, inr, ⊎-elim, _↔_}
+use mathlib.Core.Bool.{Bool, true, false, cond, not, _&&_, _||_}
+use mathlib.Core.List.{List, [], _∷_, _++_, map, flatMap}
+use Prim.Native.Nat.{ℕ, zero, suc, _+_, _≤_, _<_}
+use native.Mathlib.Nat.{eq-or-lt-of-le}
+use native.Mathlib.Omega.{arith}
+use borrow.Author.Tests.{eqb-true, eq-eqb}
+use lib.Dec.{eqb}
+use lib.ListN.{length, getD}
+use Rattle.meaning.specs.Lists.{any, all, filter, dedup, onlyIf, upFrom, In, Every, listed}
+use Rattle.meaning.proofs.Tests.{true≢false, and-reads, or-reads}
+
+module _ {A : Type 0} where
+  pub no-cons : (a : A) (l : List A) → (a ∷ l) ≡ [] → ⊥
+  no-cons a l e = let z : suc (length l) ≡ 0 = ap length e in omega arith
+
+  -- ---- members
+  pub in-append : (a : A) (l l′ : List A) → In a (l ++ l′) ↔ (In a l ⊎ In a l′)
+  in-append a [] l′ = ((λ m. inr m), ⊎-elim (λ m. absurd m) (λ m. m))
+  in-append a (b ∷ l) l′ = (
+    ⊎-elim (λ e. inl (inl e)) (λ m. ⊎-elim (λ k. inl (inr k)) (λ k. inr k) (in-append a l l′ .0 m)),
+    ⊎-elim (⊎-elim (λ e. inl e) (λ m. inr (in-append a l l′ .1 (inl m)))) (λ m. inr (in-append a l l′ .1 (inr m))),
+  )
+
+  pub in-onlyIf : (b : Bool) (a c : A) → In a (onlyIf b c) ↔ ((b ≡ true) × (a ≡ c))
+  in-onlyIf true a c = (⊎-elim (λ e. (refl, e)) (λ m. absurd m), (λ h. inl (h .1)))
+  in-onlyIf false a c = ((λ m. absurd m), (λ h. true≢false (sym (h .0))))
+
+  pub in-filter : (test : A → Bool) (l : List A) (a : A) → In a (filter test l) ↔ (In a l × (test a ≡ true))
+  unfolding filter
+  in-filter test [] a = ((λ m. absurd m), (λ h. h .0))
+  in-filter test (b ∷ l) a = go (in-filter test l a) (test b) refl
+    where
+      go : In a (filter test l) ↔ (In a l × (test a ≡ true)) → (t : Bool) → test b ≡ t
+          → In a (cond t (b ∷ filter test l) (filter test l)) ↔ (((a ≡ b) ⊎ In a l) × (test a ≡ true))
+      go rec true e = (
+        ⊎-elim (λ q. (inl q, ap test q ∙ e)) (λ m. let h = rec .0 m in (inr (h .0), h .1)),
+        (λ h. ⊎-elim (λ q. inl q) (λ m. inr (rec .1 (m, h .1))) (h .0)),
+      )
+      go rec false e = (
+        (λ m. let h = rec .0 m in (inr (h .0), h .1)),
+        (λ h. ⊎-elim (λ q. absurd (true≢false (sym (h .1) ∙ ap test q ∙ e))) (λ m. rec .1 (m, h .1)) (h .0)),
+      )
+
+  pub any-reads : (test : A → Bool) (l : List A) → (any test l ≡ true) ↔ ((a : A) × In a l × (test a ≡ true))
+  unfolding any
+  any-reads test [] = ((λ e. absurd (true≢false (sym e))), (λ w. absurd (w .1)))
+  any-reads test (b ∷ l) = (
+    (λ e. ⊎-elim (λ h. (b, inl refl, h)) (λ h. let w = any-reads test l .0 h in (w .0, inr (w .1), w .2)) (or-reads (test b) (any test l) .0 e)),
+    (λ w.
+        or-reads (test b) (any test l) .1
+        (⊎-elim (λ q. inl (subst (λ (a : A). test a ≡ true) q (w .2))) (λ m. inr (any-reads test l .1 (w .0, m, w .2))) (w .1))),
+  )
+
+  pub all-reads : (test : A → Bool) (l : List A) → (all test l ≡ true) ↔ ((a : A) → In a l → test a ≡ true)
+  unfolding all
+  all-reads test [] = ((λ e a m. absurd m), (λ f. refl))
+  all-reads test (b ∷ l) = (
+    (λ e a. let h = and-reads (test b) (all test l) .0 e in ⊎-elim (λ q. ap test q ∙ h .0) (λ m. all-reads test l .0 (h .1) a m)),
+    (λ f. and-reads (test b) (all test l) .1 (f b (inl refl), all-reads test l .1 (λ a m. f a (inr m)))),
+  )
+
+  pub every-reads : (P : A → Type 0) (l : List A) → Every P l ↔ ((a : A) → In a l → P a)
+  every-reads P [] = ((λ h a m. absurd m), (λ f. tt))
+  every-reads P (b ∷ l) = (
+    (λ h a. ⊎-elim (λ q. subst P (sym q) (h .0)) (λ m. every-reads P l .0 (h .1) a m)),
+    (λ f. (f b (inl refl), every-reads P l .1 (λ a m. f a (inr m)))),
+  )
+
+  pub every-append : (P : A → Type 0) (l l′ : List A) → Every P (l ++ l′) ↔ (Every P l × Every P l′)
+  every-append P [] l′ = ((λ h. (tt, h)), (λ h. h .1))
+  every-append P (a ∷ l) l′ = (
+    (λ h. let k = every-append P l l′ .0 (h .1) in ((h .0, k .0), k .1)),
+    (λ h. (h .0 .0, every-append P l l′ .1 (h .0 .1, h .1))),
+  )
+
+  pub every-map : (P Q : A → Type 0) → ((a : A) → P a → Q a) → (l : List A) → Every P l → Every Q l
+  every-map P Q f [] h = tt
+  every-map P Q f (a ∷ l) h = (f a (h .0), every-map P Q f l (h .1))
+
+  -- the element at a place
+  pub every-at : (P : A → Type 0) (l : List A) (d : A) (n : ℕ) → Every P l → n < length l → P (getD l n d)
+  every-at P [] d n h k = absurd (omega arith)
+  every-at P (a ∷ l) d zero h k = h .0
+  every-at P (a ∷ l) d (suc n) h k = every-at P l d n (h .1) (omega arith)
+
+  pub at-in : (l : List A) (d : A) (n : ℕ) → n < length l → In (getD l n d) l
+  at-in [] d n k = absurd (omega arith)
+  at-in (a ∷ l) d zero k = inl refl
+  at-in (a ∷ l) d (suc n) k = inr (at-in l d n (omega arith))
+
+  -- ---- no element
+  pub append-none : (l l′ : List A) → (l ++ l′ ≡ []) ↔ ((l ≡ []) × (l′ ≡ []))
+  append-none [] l′ = ((λ e. (refl, e)), (λ h. h .1))
+  append-none (a ∷ l) l′ = ((λ e. absurd (no-cons a (l ++ l′) e)), (λ h. absurd (no-cons a l (h .0))))
+
+  pub onlyIf-none : (b : Bool) (a : A) → (onlyIf b a ≡ []) ↔ (b ≡ true → ⊥)
+  onlyIf-none true a = ((λ e k. no-cons a [] e), (λ f. absurd (f refl)))
+  onlyIf-none false a = ((λ e k. true≢false (sym k)), (λ f. refl))
+
+  -- a place is listed unless its test passes
+  pub unless-none : (b : Bool) (a : A) → (onlyIf (not b) a ≡ []) ↔ (b ≡ true)
+  unless-none true a = ((λ e. refl), (λ e. refl))
+  unless-none false a = ((λ e. absurd (no-cons a [] e)), (λ e. absurd (true≢false (sym e))))
+
+  -- the same where only some places are looked at
+  pub among-none : (b c : Bool) (a : A) → (onlyIf (b && not c) a ≡ []) ↔ (b ≡ true → c ≡ true)
+  among-none true true a = ((λ e k. refl), (λ f. refl))
+  among-none true false a = ((λ e k. absurd (no-cons a [] e)), (λ f. absurd (true≢false (sym (f refl)))))
+  among-none false c a = ((λ e k. absurd (true≢false (sym k))), (λ f. refl))
+
+  -- ---- each element once, for a test that says when two are equal
+  module _ (same : A → A → Bool) (reads : (a b : A) → (same a b ≡ true) ↔ (a ≡ b)) where
+    pub any-same : (a : A) (l : List A) → (any (same a) l ≡ true) ↔ In a l
+    any-same a l = (
+      (λ e. let w = any-reads (same a) l .0 e in subst (λ (z : A). In z l) (sym (reads a (w .0) .0 (w .2))) (w .1)),
+      (λ m. any-reads (same a) l .1 (a, m, reads a a .1 refl)),
+    )
+
+    pub in-dedup : (l : List A) (a : A) → In a (dedup same l) ↔ In a l
+    unfolding dedup
+    in-dedup [] a = ((λ m. m), (λ m. m))
+    in-dedup (b ∷ l) a = go (in-dedup l) (any (same b) l) refl
+      where
+        go : ((c : A) → In c (dedup same l) ↔ In c l) → (t : Bool) → any (same b) l ≡ t → In a (cond t (dedup same l) (b ∷ dedup same l)) ↔ In a (b ∷ l)
+        go rec true e = (
+          (λ m. inr (rec a .0 m)),
+          ⊎-elim (λ q. subst (λ (z : A). In z (dedup same l)) (sym q) (rec b .1 (any-same b l .0 e))) (λ m. rec a .1 m),
+        )
+        go rec false e = (⊎-elim (λ q. inl q) (λ m. inr (rec a .0 m)), ⊎-elim (λ q. inl q) (λ m. inr (rec a .1 m)))
+
+module _ {A B : Type 0} where
+  pub in-flatMap : (g : A → List B) (l : List A) (b : B) → In b (flatMap g l) ↔ ((a : A) × In a l × In b (g a))
+  unfolding flatMap
+  in-flatMap g [] b = ((λ m. absurd m), (λ w. absurd (w .1)))
+  in-flatMap g (c ∷ l) b = (
+    (λ m. ⊎-elim (λ k. (c, inl refl, k)) (λ k. let w = in-flatMap g l b .0 k in (w .0, inr (w .1), w .2)) (in-append b (g c) (flatMap g l) .0 m)),
+    (λ w.
+        in-append b (g c) (flatMap g l) .1
+        (⊎-elim (λ q. inl (subst (λ (z : A). In b (g z)) q (w .2))) (λ m. inr (in-flatMap g l b .1 (w .0, m, w .2))) (w .1))),
+  )
+
+  pub in-map : (f : A → B) (l : List A) (b : B) → In b (map f l) ↔ ((a : A) × In a l × (b ≡ f a))
+  in-map f [] b = ((λ m. absurd m), (λ w. absurd (w .1)))
+  in-map f (c ∷ l) b = (
+    ⊎-elim (λ e. (c, inl refl, e)) (λ m. let w = in-map f l b .0 m in (w .0, inr (w .1), w .2)),
+    (λ w. ⊎-elim (λ q. inl (w .2 ∙ ap f q)) (λ m. inr (in-map f l b .1 (w .0, m, w .2))) (w .1)),
+  )
+
+  pub flatMap-none : (g : A → List B) (l : List A) → (flatMap g l ≡ []) ↔ ((a : A) → In a l → g a ≡ [])
+  unfolding flatMap
+  flatMap-none g [] = ((λ e a m. absurd m), (λ f. refl))
+  flatMap-none g (c ∷ l) = (
+    (λ e a. let h = append-none (g c) (flatMap g l) .0 e in ⊎-elim (λ q. ap g q ∙ h .0) (λ m. flatMap-none g l .0 (h .1) a m)),
+    (λ f. append-none (g c) (flatMap g l) .1 (f c (inl refl), flatMap-none g l .1 (λ a m. f a (inr m)))),
+  )
+
+-- ---- lists of numbers
+pub listed-reads : (n : ℕ) (l : List ℕ) → (listed n l ≡ true) ↔ In n l
+listed-reads n l = any-same eqb (λ a b. (eqb-true a b, eq-eqb a b)) n l
+
+pub in-upFrom : (a n k : ℕ) → In k (upFrom a n) ↔ ((a ≤ k) × (k < a + n))
+unfolding upFrom
+in-upFrom a zero k = ((λ m. absurd m), (λ h. absurd (omega arith)))
+in-upFrom a (suc n) k = (
+  ⊎-elim (λ e. (omega arith, omega arith)) (λ m. let h = in-upFrom (suc a) n k .0 m in (omega arith, omega arith)),
+  (λ h. ⊎-elim (λ e. inl (sym e)) (λ l. inr (in-upFrom (suc a) n k .1 (l, omega arith))) (eq-or-lt-of-le (h .0))),
+)

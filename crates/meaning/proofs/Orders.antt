@@ -1,0 +1,144 @@
+-- Loading orders: the number that `orderIn` computes is the place where an entry stands.
+use mathlib.Core.Path.{_≡_, refl, sym, ap, subst, _∙_}
+use mathlib.Core.Logic.{_⊎_, inl, inr, ⊎-elim, _↔_}
+use mathlib.Core.Bool.{Bool, true, false, cond, not}
+use mathlib.Core.List.{List, [], _∷_}
+use Prim.Native.Nat.{ℕ, zero, suc, _+_, _-_, _≤_, _<_}
+use native.Mathlib.Decide.{decLe}
+use native.Mathlib.Omega.{arith}
+use borrow.Author.Tests.{eqb-true, eqb-false}
+use lib.Dec.{eqb}
+use lib.ListN.{length, getD, take}
+use Rattle.meaning.specs.Lists.{any, In, listed, distinct, orderFrom, orderIn, between}
+use Rattle.meaning.specs.Feasible.{Stands, Earlier, NotLater}
+use Rattle.meaning.proofs.Tests.{true≢false, and-reads, not-reads, between-reads, same-test}
+use Rattle.meaning.proofs.Lists.{at-in, listed-reads}
+
+-- ---- places in a list with one more entry at its front
+pub stands-first : (n : ℕ) (l : List ℕ) → Stands (n ∷ l) n 1
+stands-first n l = record { from = omega arith; upTo = omega arith; there = refl }
+
+one-back : (k : ℕ) → suc k - 1 ≡ k
+one-back k = omega arith
+
+pub stands-later : (m : ℕ) (l : List ℕ) (n k : ℕ) → Stands l n k → Stands (m ∷ l) n (suc k)
+stands-later m l n zero h = absurd (omega (arith, h .from))
+stands-later m l n (suc k) h = record { from = omega arith; upTo = omega (arith, h .upTo); there = rw (one-back (suc k)) (rw (one-back k) at (h .there)) }
+
+stands-back : (m : ℕ) (l : List ℕ) (n k : ℕ) → Stands (m ∷ l) n (suc (suc k)) → Stands l n (suc k)
+stands-back m l n k h = record { from = omega arith; upTo = omega (arith, h .upTo); there = rw (one-back k) (rw (one-back (suc k)) at (h .there)) }
+
+pub stands-in : (l : List ℕ) (n k : ℕ) → Stands l n k → In n l
+stands-in l n k h = subst (λ (z : ℕ). In z l) (h .there) (at-in l 0 (k - 1) (omega (arith, h .from, h .upTo)))
+
+-- ---- what `orderFrom` finds
+-- the number `found` is the place of n where the first place is j: n stands there and not before
+abbrev FirstAt : ℕ → ℕ → List ℕ → ℕ → Type 0
+FirstAt j n l found = (k : ℕ) × Stands l n k × (suc found ≡ j + k) × (In n (take (k - 1) l) → ⊥)
+
+order-cases : (j n : ℕ) (l : List ℕ) → ((In n l → ⊥) × (orderFrom j n l ≡ 0)) ⊎ FirstAt j n l (orderFrom j n l)
+unfolding orderFrom
+order-cases j n [] = inl ((λ m. m), refl)
+order-cases j n (m ∷ l) = go (eqb n m) refl (order-cases (suc j) n l)
+  where
+    -- the entry stands further on
+    further : (at : ℕ) → Stands l n at → suc (orderFrom (suc j) n l) ≡ suc j + at → (In n (take (at - 1) l) → ⊥) → (n ≡ m → ⊥)
+        → FirstAt j n (m ∷ l) (orderFrom (suc j) n l)
+    further zero s e f d = absurd (omega (arith, s .from))
+    further (suc at) s e f d = (suc (suc at), stands-later m l n (suc at) s, omega arith, rw (one-back (suc at)) (⊎-elim d (rw (one-back at) at f)))
+
+    go : (t : Bool) → eqb n m ≡ t → ((In n l → ⊥) × (orderFrom (suc j) n l ≡ 0)) ⊎ FirstAt (suc j) n l (orderFrom (suc j) n l)
+        → ((In n (m ∷ l) → ⊥) × (cond t j (orderFrom (suc j) n l) ≡ 0))
+        ⊎ FirstAt j n (m ∷ l) (cond t j (orderFrom (suc j) n l))
+    go true e rec = inr (1, subst (λ (z : ℕ). Stands (m ∷ l) z 1) (sym (eqb-true n m e)) (stands-first m l), omega arith, (λ z. z))
+    go false e (inl h) = inl (⊎-elim (eqb-false n m e) (h .0), h .1)
+    go false e (inr h) = inr (further (h .0) (h .1) (h .2) (h .3) (eqb-false n m e))
+
+-- ---- loading orders
+pub order-in : (l : List ℕ) (n : ℕ) → (1 ≤ orderIn l n) ↔ In n l
+order-in l n = (
+  (λ h. ⊎-elim (λ k. absurd (omega (arith, h, k .1))) (λ k. stands-in l n (k .0) (k .1)) (order-cases 1 n l)),
+  (λ m. ⊎-elim (λ k. absurd (k .0 m)) (λ k. omega (arith, k .2, k .1 .from)) (order-cases 1 n l)),
+)
+
+pub order-stands : (l : List ℕ) (n : ℕ) → In n l → Stands l n (orderIn l n)
+order-stands l n m =
+    ⊎-elim (λ k. absurd (k .0 m)) (λ k. let e : k .0 ≡ orderIn l n = omega (arith, k .2) in subst (Stands l n) e (k .1)) (order-cases 1 n l)
+
+-- in a list without repeats the first entry stands nowhere else
+first-alone : (m : ℕ) (l : List ℕ) (n k : ℕ) → distinct (m ∷ l) ≡ true → m ≡ n → Stands l n (suc k) → ⊥
+unfolding distinct
+first-alone m l n k d e h =
+    not-reads (listed m l) .0 (and-reads (not (listed m l)) (distinct l) .0 d .0)
+    (listed-reads m l .1 (subst (λ (z : ℕ). In z l) (sym e) (stands-in l n (suc k) h)))
+
+-- so does every entry
+pub stands-once : (l : List ℕ) (n j k : ℕ) → distinct l ≡ true → Stands l n j → Stands l n k → j ≡ k
+unfolding distinct
+stands-once [] n j k d h h′ = absurd (omega (arith, h .from, h .upTo))
+stands-once (m ∷ l) n zero k d h h′ = absurd (omega (arith, h .from))
+stands-once (m ∷ l) n (suc zero) zero d h h′ = absurd (omega (arith, h′ .from))
+stands-once (m ∷ l) n (suc zero) (suc zero) d h h′ = refl
+stands-once (m ∷ l) n (suc zero) (suc (suc k)) d h h′ = absurd (first-alone m l n k d (h .there) (stands-back m l n k h′))
+stands-once (m ∷ l) n (suc (suc j)) zero d h h′ = absurd (omega (arith, h′ .from))
+stands-once (m ∷ l) n (suc (suc j)) (suc zero) d h h′ = absurd (first-alone m l n j d (h′ .there) (stands-back m l n j h))
+stands-once (m ∷ l) n (suc (suc j)) (suc (suc k)) d h h′ =
+    ap suc (stands-once l n (suc j) (suc k) (and-reads (not (listed m l)) (distinct l) .0 d .1) (stands-back m l n j h) (stands-back m l n k h′))
+
+pub stands-order : (l : List ℕ) (n k : ℕ) → distinct l ≡ true → Stands l n k → orderIn l n ≡ k
+stands-order l n k d h = stands-once l n (orderIn l n) k d (order-stands l n (stands-in l n k h)) h
+
+-- in a list without repeats the places of two entries compare as their loading orders do
+module _ (l : List ℕ) (d : distinct l ≡ true) (a b : ℕ) where
+  pub earlier-reads : In a l → In b l → (orderIn l a < orderIn l b) ↔ Earlier l a b
+  earlier-reads m n = (
+    (λ h. record { first = orderIn l a; second = orderIn l b; ofFirst = order-stands l a m; ofSecond = order-stands l b n; order = h }),
+    (λ h. let e = stands-order l a (h .first) d (h .ofFirst) in let f = stands-order l b (h .second) d (h .ofSecond) in omega (arith, e, f, h .order)),
+  )
+
+  pub notLater-reads : In a l → In b l → (orderIn l a ≤ orderIn l b) ↔ NotLater l a b
+  notLater-reads m n = (
+    (λ h. record { first = orderIn l a; second = orderIn l b; ofFirst = order-stands l a m; ofSecond = order-stands l b n; order = h }),
+    (λ h. let e = stands-order l a (h .first) d (h .ofFirst) in let f = stands-order l b (h .second) d (h .ofSecond) in omega (arith, e, f, h .order)),
+  )
+
+-- ---- the first k entries
+in-take : (l : List ℕ) (n k j : ℕ) → Stands l n j → j ≤ k → In n (take k l)
+in-take [] n k j h le = absurd (omega (arith, h .from, h .upTo))
+in-take (m ∷ l) n k zero h le = absurd (omega (arith, h .from))
+in-take (m ∷ l) n zero (suc j) h le = absurd (omega arith)
+in-take (m ∷ l) n (suc k) (suc zero) h le = inl (sym (h .there))
+in-take (m ∷ l) n (suc k) (suc (suc j)) h le = inr (in-take l n k (suc j) (stands-back m l n j h) (omega arith))
+
+take-in : (l : List ℕ) (n k : ℕ) → In n (take k l) → In n l
+take-in [] n zero m = m
+take-in [] n (suc k) m = m
+take-in (b ∷ l) n zero m = absurd m
+take-in (b ∷ l) n (suc k) (inl e) = inl e
+take-in (b ∷ l) n (suc k) (inr m) = inr (take-in l n k m)
+
+-- the entries of the first k places, where k goes up
+take-more : (l : List ℕ) (n j k : ℕ) → j ≤ k → In n (take j l) → In n (take k l)
+take-more [] n zero zero h m = m
+take-more [] n zero (suc k) h m = m
+take-more [] n (suc j) zero h m = m
+take-more [] n (suc j) (suc k) h m = m
+take-more (b ∷ l) n zero k h m = absurd m
+take-more (b ∷ l) n (suc j) zero h m = absurd (omega arith)
+take-more (b ∷ l) n (suc j) (suc k) h (inl e) = inl e
+take-more (b ∷ l) n (suc j) (suc k) h (inr m) = inr (take-more l n j k (omega arith) m)
+
+-- an entry's order is one of 1 to k exactly when it is among the first k
+pub order-take : (l : List ℕ) (n k : ℕ) → between 1 k (orderIn l n) ≡ listed n (take k l)
+order-take l n k =
+    same-test (between 1 k (orderIn l n)) (listed n (take k l)) (
+      (λ e. let h = between-reads 1 k (orderIn l n) .0 e in listed-reads n (take k l) .1 (in-take l n k (orderIn l n) (order-stands l n (order-in l n .0 (h .0))) (h .1))),
+      (λ e. let m = listed-reads n (take k l) .0 e in between-reads 1 k (orderIn l n) .1 (order-in l n .1 (take-in l n k m), upTo m)),
+    )
+  where
+    below : In n (take k l) → ((j : ℕ) × Stands l n j × (suc (orderIn l n) ≡ 1 + j) × (In n (take (j - 1) l) → ⊥)) → Dec (orderIn l n ≤ k) → orderIn l n ≤ k
+    below m w (yes h) = h
+    below m w (no h) = absurd (w .3 (take-more l n k (w .0 - 1) (omega (arith, w .2, h)) m))
+
+    upTo : In n (take k l) → orderIn l n ≤ k
+    upTo m = ⊎-elim (λ w. absurd (w .0 (take-in l n k m))) (λ w. below m w (decLe (orderIn l n) k)) (order-cases 1 n l)

@@ -1,0 +1,110 @@
+-- What is proved of the definitions, as statements over the limits. The proofs are in proofs/, each under the name given here.
+use mathlib.Core.Path.{_≡_}
+use mathlib.Core.Logic.{_⊎_, _↔_}
+use mathlib.Core.Bool.{false}
+use mathlib.Core.Option.{Option, none, some}
+use mathlib.Core.List.{List, [], _∷_, _++_, List·Permᴰ}
+use Prim.Native.Nat.{ℕ, _≤_, _<_}
+use lib.ListN.{length}
+use Rattle.meaning.specs.declared.Limits.{Limits}
+use Rattle.meaning.specs.declared.Place.{Place}
+use Rattle.meaning.specs.Lists.{In, Every}
+use Rattle.meaning.specs.Limits.{named}
+use Rattle.meaning.specs.Model.{Instance, Stack}
+use Rattle.meaning.specs.Table.{words, instanceIn, stacksIn}
+use Rattle.meaning.specs.Places.{lowest}
+use Rattle.meaning.specs.Rules.{Rule, rules}
+use Rattle.meaning.specs.Verdict.{verdictOn, refusal, acceptance, cost}
+use Rattle.meaning.specs.Check.{readable, readFiles, answer}
+use Rattle.meaning.specs.Feasible.{Feasible}
+use Rattle.meaning.specs.Reorder.{Reordered}
+use Rattle.meaning.specs.Print.{printedInstance, printedPlan}
+use Rattle.meaning.specs.InRange.{InRange, Fits}
+use Rattle.meaning.specs.Measures.{usedTrucks}
+
+-- two files that can be read, and what they say
+pub record Readable (m : Limits) (instance plan : List ℕ) : Type 0 where
+  pub says : Instance
+  pub stacks : List Stack
+  pub read : readFiles m instance plan ≡ readable says stacks
+
+-- ---- the lowest place (proofs/Lowest: lowest-is)
+-- p comes before q: by the first, then the second, then the third
+abbrev pub Before : Place → Place → Type 0
+Before p q = (p .first < q .first) ⊎ ((p .first ≡ q .first) × ((p .second < q .second) ⊎ ((p .second ≡ q .second) × (p .third < q .third))))
+
+-- a listed place with none before it; none where no place is listed
+abbrev pub IsLowest : List Place → Option Place → Type 0
+IsLowest ps none = ps ≡ []
+IsLowest ps (some p) = In p ps × ((q : Place) → In q ps → Before q p → ⊥)
+
+abbrev pub LowestPlace : Type 0
+LowestPlace = (ps : List Place) → IsLowest ps (lowest ps)
+
+-- ---- the verdict, rule by rule (proofs/Accepted: accepted-exactly, refused-exactly)
+abbrev pub KeptBy : Instance → List Stack → Rule → Type 0
+KeptBy i p r = r .places i p ≡ []
+
+-- accepted exactly when no rule lists a place, with the cost and the number of used trucks
+abbrev pub AcceptedExactly : Type 0
+AcceptedExactly =
+    (i : Instance) (p : List Stack)
+    → ((verdictOn i p .number ≡ 0) ↔ Every (KeptBy i p) rules)
+    × (Every (KeptBy i p) rules → verdictOn i p ≡ acceptance (cost i p) (length (usedTrucks p)))
+
+-- otherwise the first broken rule at its lowest place
+abbrev pub RefusedExactly : Type 0
+RefusedExactly =
+    (i : Instance) (p : List Stack) (before after : List Rule) (r : Rule) (q : Place)
+    → rules ≡ before ++ r ∷ after → Every (KeptBy i p) before → lowest (r .places i p) ≡ some q
+    → verdictOn i p ≡ refusal (r .verdict) q
+
+-- ---- reading (proofs/Reads: read-in-range, read-fits; proofs/Printed: read-printed)
+-- what is read has every entry in range
+abbrev pub ReadInRange : Limits → Type 0
+ReadInRange m = (instance plan : List ℕ) (r : Readable m instance plan) → InRange m (r .says) (r .stacks)
+
+-- and has room in the table
+abbrev pub ReadFits : Limits → Type 0
+ReadFits m = (instance plan : List ℕ) (r : Readable m instance plan) → Fits m (r .says) (r .stacks)
+
+-- files that can be read are exactly what they say, written out
+pub record IsPrinted (instance plan : List ℕ) (i : Instance) (p : List Stack) : Type 0 where
+  pub says : instance ≡ printedInstance i
+  pub stacks : plan ≡ printedPlan p
+
+abbrev pub ReadPrinted : Limits → Type 0
+ReadPrinted m = (instance plan : List ℕ) (r : Readable m instance plan) → IsPrinted instance plan (r .says) (r .stacks)
+
+-- ---- the table (proofs/Decode: decodes, words-length)
+-- the words of a model with room in the table hold that model, and are as many as are named
+pub record Decoded (m : Limits) (table : List ℕ) (i : Instance) (p : List Stack) : Type 0 where
+  pub instance : instanceIn m table ≡ i
+  pub stacks : stacksIn m table ≡ p
+  pub size : length table ≡ named m
+
+abbrev pub Decodes : Limits → Type 0
+Decodes m = (i : Instance) (p : List Stack) → Fits m i p → Decoded m (words m i p) i p
+
+-- ---- demand 3 (proofs/Picture: accepted-when-feasible; proofs/AnyOrder: order-free, any-order)
+-- a readable plan is accepted exactly when its picture holds
+abbrev pub AcceptedWhenFeasible : Limits → Type 0
+AcceptedWhenFeasible m =
+    (tableLength : ℕ) (instance plan : List ℕ) → named m ≤ tableLength → (r : Readable m instance plan)
+    → (answer m tableLength instance plan .number ≡ 0) ↔ Feasible (r .says) (r .stacks)
+
+-- a readable plan with its stacks in another order is readable and has the same answer
+abbrev pub OrderFree : Limits → Type 0
+OrderFree m =
+    (tableLength : ℕ) (instance plan plan′ : List ℕ) → Readable m instance plan → Reordered plan plan′
+    → Readable m instance plan′ × (answer m tableLength instance plan′ ≡ answer m tableLength instance plan)
+
+-- each order p′ of the stacks is that of a plan which the reordering reaches and which is read as p′
+pub record InOrder (m : Limits) (instance plan : List ℕ) (i : Instance) (p′ : List Stack) : Type 0 where
+  pub reordered : Reordered plan (printedPlan p′)
+  pub read : readFiles m instance (printedPlan p′) ≡ readable i p′
+
+abbrev pub AnyOrder : Limits → Type 0
+AnyOrder m =
+    (instance plan : List ℕ) (r : Readable m instance plan) (p′ : List Stack) → List·Permᴰ (r .stacks) p′
+    → InOrder m instance plan (r .says) p′

@@ -1,0 +1,131 @@
+-- Document 01, "One load from end to end": the printed load with its ten edits, as one statement, and H.
+use mathlib.Core.Path.{_≡_, refl}
+use mathlib.Core.List.{List, [], _∷_, _++_, map}
+use Prim.Native.Nat.{ℕ, _-_}
+use Prim.Native.String.{String}
+use lib.IntN.{ℤ, pos}
+use lib.ListN.{set, getD}
+use Rattle.meaning.specs.declared.Answer.{Answer}
+use Rattle.meaning.specs.Limits.{small, named}
+use Rattle.meaning.specs.Text.{bytes, commaParts}
+use Rattle.meaning.specs.Places.{place}
+use Rattle.meaning.specs.Model.{truckNumbered}
+use Rattle.meaning.specs.Measures.{H}
+use Rattle.meaning.specs.Verdict.{acceptance, refusal}
+use Rattle.meaning.specs.Check.{Reading, refused, readable, readFiles, answer}
+use Rattle.meaning.specs.Reorder.{ended}
+use Rattle.meaning.specs.Print.{commaJoined}
+
+-- ---- the printed load
+-- the lines of a file, without their bytes 10
+abbrev pub Lines : Type 0
+Lines = List (List ℕ)
+
+abbrev pub lines : List String → Lines
+lines texts = map bytes texts
+
+abbrev pub fileOf : Lines → List ℕ
+fileOf [] = []
+fileOf (l ∷ ls) = ended l ++ fileOf ls
+
+abbrev pub printedLoad : Lines
+printedLoad =
+    lines (
+    "transport=2"
+    ∷ "inventory=3"
+    ∷ "extra=200"
+    ∷ "items=2"
+    ∷ "trucks=1"
+    ∷ "item=1200,800,1000,0,500,1,3,1,0,2,5,1,1,1,1,4"
+    ∷ "item=1200,800,1000,100,400,1,3,1,0,2,5,1,1,1,1,4"
+    ∷ "truck=13000,2400,2700,24000,1,3,1000,0,1500,100,7000,3800,1000,3000,7000,7500,2500,1500,24000,12000"
+    ∷ "products=1"
+    ∷ "suppliers=1"
+    ∷ "docks=1"
+    ∷ "plantdocks=1"
+    ∷ []
+    )
+
+abbrev pub printedStacks : Lines
+printedStacks = lines ("stacks=1" ∷ "stack=1,1,0,0,0,1" ∷ "load=1,2" ∷ [])
+
+-- ---- edits
+-- a change of a file: entry k of line n, both from 1 and k > 1; or the whole line n
+pub data Edit : Type 0 where
+  entry : ℕ → ℕ → String → Edit
+  line : ℕ → String → Edit
+
+abbrev pub edited : Edit → Lines → Lines
+edited (entry n k text) ls = set ls (n - 1) (commaJoined (set (commaParts (getD ls (n - 1) [])) (k - 1) (bytes text)))
+edited (line n text) ls = set ls (n - 1) (bytes text)
+
+abbrev pub editedBy : List Edit → Lines → Lines
+editedBy [] ls = ls
+editedBy (e ∷ es) ls = editedBy es (edited e ls)
+
+-- a case: the edits of the instance, those of the plan, and the answer
+pub record Case : Type 0 where
+  pub toInstance : List Edit
+  pub toPlan : List Edit
+  pub expected : Answer
+
+abbrev pub instanceEdit : Edit → Answer → Case
+instanceEdit e a = record { toInstance = e ∷ []; toPlan = []; expected = a }
+
+abbrev pub planEdit : Edit → Answer → Case
+planEdit e a = record { toInstance = []; toPlan = e ∷ []; expected = a }
+
+-- what the check answers, for a table of just the named words
+abbrev pub answered : Lines → Lines → Case → Answer
+answered instance plan c = answer small (named small) (fileOf (editedBy (c .toInstance) instance)) (fileOf (editedBy (c .toPlan) plan))
+
+abbrev pub refusedWith : ℕ → ℕ → ℕ → ℕ → Answer
+refusedWith n a b c = refusal n (place a b c)
+
+-- places of the fields in their lines: the truck's line is line 8 of the instance, the stack's is line 2 of the plan
+abbrev pub TH-entry : String → Edit
+TH-entry v = entry 8 3 v
+
+abbrev pub TEM-entry : String → Edit
+TEM-entry v = entry 8 9 v
+
+abbrev pub EMmr-entry : String → Edit
+EMmr-entry v = entry 8 19 v
+
+abbrev pub EMmm-entry : String → Edit
+EMmm-entry v = entry 8 20 v
+
+abbrev pub copy-entry : String → Edit
+copy-entry v = entry 2 3 v
+
+abbrev pub x-entry : String → Edit
+x-entry v = entry 2 4 v
+
+-- the printed load, and "ten edits"
+abbrev pub tenEdits : List Case
+tenEdits =
+    record { toInstance = []; toPlan = []; expected = acceptance 248000 1 }
+    ∷ planEdit (copy-entry "1") (acceptance 288000 1)
+    ∷ instanceEdit (EMmm-entry "4480") (acceptance 248000 1)
+    ∷ instanceEdit (EMmm-entry "4479") (refusedWith 27 1 0 1)
+    ∷ instanceEdit (EMmr-entry "4559") (acceptance 248000 1)
+    ∷ instanceEdit (EMmr-entry "4558") (refusedWith 28 1 0 1)
+    ∷ instanceEdit (TEM-entry "938") (acceptance 248000 1)
+    ∷ instanceEdit (TEM-entry "937") (refusedWith 21 1 900 0)
+    ∷ instanceEdit (TH-entry "1899") (refusedWith 22 1 3 0)
+    ∷ planEdit (x-entry "1") (refusedWith 24 1 0 0)
+    ∷ planEdit (line 3 "load=1") (refusedWith 9 2 0 0)
+    ∷ []
+
+pub ten-edits : map (answered printedLoad printedStacks) tenEdits ≡ map (λ (c : Case). c .expected) tenEdits
+unfolding answer commaParts commaJoined
+ten-edits = refl
+
+-- ---- "H is 50,120,000"
+abbrev pub HofReading : Reading → ℤ
+HofReading (refused a) = pos 0
+HofReading (readable i p) = H i (truckNumbered i 1) p
+
+pub H-printed : HofReading (readFiles small (fileOf printedLoad) (fileOf printedStacks)) ≡ pos 50120000
+unfolding readFiles H
+H-printed = refl

@@ -1,0 +1,89 @@
+-- Document 01, "The working table": the model as words, and the model that words hold. Where a word stands is said here alone.
+use mathlib.Core.List.{List, [], _∷_, _++_, map, flatMap}
+use Prim.Native.Nat.{ℕ, _+_, _*_}
+use lib.ListN.{length, getD, take, drop}
+use Rattle.meaning.specs.declared.Limits.{Limits}
+use Rattle.meaning.specs.Lists.{chunks, padded}
+use Rattle.meaning.specs.Limits.{itemsAt, trucksAt, stacksAt, loadsAt}
+use Rattle.meaning.specs.Model.{Instance, Truck, Stack, Item}
+
+-- ---- the words of a model
+-- "0..5: αT, αI, αE, items, trucks, stacks"
+unfoldable pub headWords : Instance → List Stack → List ℕ
+headWords i p = i .αT ∷ i .αI ∷ i .αE ∷ length (i .items) ∷ length (i .trucks) ∷ length p ∷ []
+
+-- entries behind their count, in w words besides
+abbrev pub countedWords : ℕ → List ℕ → List ℕ
+countedWords w l = length l ∷ padded w l
+
+-- "20 fields; 20 product count, 21 products; 53 supplier count, 54 suppliers; 62 dock counts; 70 docks, 8 per supplier;
+-- 134 plant dock count, 135 plant docks", 160 in all
+unfoldable pub truckWords : Truck → List ℕ
+unfolding flatMap
+truckWords t =
+    t .fields
+    ++ (countedWords 32 (t .products)
+    ++ (countedWords 8 (t .suppliers)
+    ++ (padded 8 (map length (t .docks))
+    ++ (padded 64 (flatMap (padded 8) (t .docks))
+    ++ countedWords 25 (t .plantDocks)))))
+
+-- "stacks in file order, 8 each: six fields, first load index (among the loads, from 0), load count"; `before` entries stand before
+unfoldable pub stackWords : ℕ → List Stack → List ℕ
+stackWords before [] = []
+stackWords before (s ∷ p) = (s .fields ++ (before ∷ length (s .load) ∷ [])) ++ stackWords (before + length (s .load)) p
+
+-- the item numbers of all loads, in file order
+unfoldable pub loadEntries : List Stack → List ℕ
+unfolding flatMap
+loadEntries p = flatMap (λ (s : Stack). s .load) p
+
+-- the named words; "Other named words are zero"
+unfoldable pub words : Limits → Instance → List Stack → List ℕ
+unfolding flatMap headWords truckWords stackWords loadEntries
+words m i p =
+    padded itemsAt (headWords i p)
+    ++ (padded (16 * m .items) (flatMap (λ (a : Item). a) (i .items))
+    ++ (padded (160 * m .trucks) (flatMap truckWords (i .trucks))
+    ++ (padded (8 * m .stacks) (stackWords 0 p)
+    ++ padded (m .loads) (loadEntries p))))
+
+-- ---- the model that words hold
+-- of each row as many words as its count says
+unfoldable pub cutRows : List ℕ → List (List ℕ) → List (List ℕ)
+cutRows [] rows = []
+cutRows (n ∷ counts) [] = []
+cutRows (n ∷ counts) (row ∷ rows) = take n row ∷ cutRows counts rows
+
+-- the truck of 160 words
+unfoldable pub truckIn : List ℕ → Truck
+unfolding cutRows chunks
+truckIn t =
+    record {
+      fields = take 20 t;
+      products = take (getD t 20 0) (drop 21 t);
+      suppliers = take (getD t 53 0) (drop 54 t);
+      docks = cutRows (take (getD t 53 0) (drop 62 t)) (chunks 8 8 (drop 70 t));
+      plantDocks = take (getD t 134 0) (drop 135 t);
+    }
+
+-- the instance of a table
+unfoldable pub instanceIn : Limits → List ℕ → Instance
+unfolding chunks truckIn
+instanceIn m t =
+    record {
+      αT = getD t 0 0;
+      αI = getD t 1 0;
+      αE = getD t 2 0;
+      items = chunks 16 (getD t 3 0) (drop itemsAt t);
+      trucks = map truckIn (chunks 160 (getD t 4 0) (drop (trucksAt m) t));
+    }
+
+-- the stack of eight words, whose load is a run of the loads
+unfoldable pub stackIn : List ℕ → List ℕ → Stack
+stackIn loads row = record { fields = take 6 row; load = take (getD row 7 0) (drop (getD row 6 0) loads) }
+
+-- the stacks of a table
+unfoldable pub stacksIn : Limits → List ℕ → List Stack
+unfolding chunks stackIn
+stacksIn m t = map (stackIn (drop (loadsAt m) t)) (chunks 8 (getD t 5 0) (drop (stacksAt m) t))

@@ -1,0 +1,28 @@
+// The numbers that the check is given and the numbers that it answers. Their meaning is defined in specs/.
+
+// The sizes that both files and the working table are held to: how many items, trucks, stacks and load entries
+// there may be, and how many bytes each file may have.
+pub struct Limits {
+    pub items: usize,
+    pub trucks: usize,
+    pub stacks: usize,
+    pub loads: usize,
+    pub bytes: usize,
+}
+
+// Where a rule is broken: up to three numbers, and 0 where the rule names fewer.
+pub struct Place {
+    pub first: u32,
+    pub second: u32,
+    pub third: u32,
+}
+
+// The answer of a check: verdict number, its three places, cost in thousandths, number of used trucks.
+pub struct Answer {
+    pub number: u32,
+    pub first: u32,
+    pub second: u32,
+    pub third: u32,
+    pub cost: u64,
+    pub trucks: u32,
+}
