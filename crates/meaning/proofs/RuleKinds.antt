@@ -1,0 +1,85 @@
+-- What it says of a plan that a rule lists no place: one law for each kind of rule.
+use mathlib.Core.Path.{_≡_, refl, sym, ap, _∙_}
+use mathlib.Core.Logic.{_⊎_, inl, inr, _↔_}
+use mathlib.Core.Bool.{Bool, true, not, _&&_}
+use mathlib.Core.List.{List, [], _∷_}
+use Prim.Native.Nat.{ℕ}
+use native.Mathlib.Omega.{arith}
+use borrow.Author.Tests.{eqb-true, eq-eqb, ne-eqb}
+use lib.Dec.{eqb}
+use Rattle.meaning.specs.Lists.{In}
+use Rattle.meaning.specs.Model.{Instance, Truck, Stack, Item, item, truckNumbered, number, truck, copy}
+use Rattle.meaning.specs.Measures.{UsedTruck, usedBy, sameUsed, another, usedTrucks, stacksOn, departures, stacksAt}
+use Rattle.meaning.specs.Rules.{itemPlaces, stackPlaces, pairPlaces, truckPlaces, departurePlaces, counts}
+use Rattle.meaning.specs.Feasible.{OneTruck, onTruckOf}
+use Rattle.meaning.proofs.Tests.{true≢false, and-reads, not-reads}
+use Rattle.meaning.proofs.Lists.{no-cons, flatMap-none, unless-none, among-none}
+
+-- ---- stacks of one used truck
+pub one-truck : (s r : Stack) → (onTruckOf s r ≡ true) ↔ OneTruck s r
+one-truck s r = (
+  (λ e. let k = and-reads (eqb (truck s) (truck r)) (eqb (copy s) (copy r)) .0 e in record { truck = eqb-true _ _ (k .0); copy = eqb-true _ _ (k .1) }),
+  (λ h. and-reads (eqb (truck s) (truck r)) (eqb (copy s) (copy r)) .1 (eq-eqb _ _ (h .truck), eq-eqb _ _ (h .copy))),
+)
+
+pub another-reads : (s r : Stack) → (another s r ≡ true) ↔ (OneTruck s r × (number s ≡ number r → ⊥))
+another-reads s r = (
+  (λ e.
+      let k = and-reads (onTruckOf s r) (not (eqb (number s) (number r))) .0 e in
+      (one-truck s r .0 (k .0), λ q. not-reads (eqb (number s) (number r)) .0 (k .1) (eq-eqb _ _ q))),
+  (λ h.
+      and-reads (onTruckOf s r) (not (eqb (number s) (number r))) .1
+      (one-truck s r .1 (h .0), not-reads (eqb (number s) (number r)) .1 (λ e. h .1 (eqb-true _ _ e)))),
+)
+
+-- a departure counts where a stack is on
+pub counts-reads : (on : List Stack) → (counts on ≡ true) ↔ ((s : Stack) × In s on)
+counts-reads [] = ((λ e. absurd (true≢false (sym e))), (λ w. absurd (w .1)))
+counts-reads (s ∷ on) = ((λ e. (s, inl refl)), (λ w. refl))
+
+-- ---- the kinds of rules
+module _ (i : Instance) (p : List Stack) where
+  pub items-kept : (kept : Instance → Stack → Item → Bool)
+      → (itemPlaces kept i p ≡ []) ↔ ((s : Stack) → In s p → (n : ℕ) → In n (s .load) → kept i s (item i n) ≡ true)
+  unfolding itemPlaces
+  items-kept kept = (
+    (λ e s m n k. unless-none (kept i s (item i n)) _ .0 (flatMap-none _ (s .load) .0 (flatMap-none _ p .0 e s m) n k)),
+    (λ f. flatMap-none _ p .1 (λ s m. flatMap-none _ (s .load) .1 (λ n k. unless-none (kept i s (item i n)) _ .1 (f s m n k)))),
+  )
+
+  pub stacks-kept : (kept : Instance → List Stack → Stack → Bool) (amount : Instance → Stack → ℕ)
+      → (stackPlaces kept amount i p ≡ []) ↔ ((s : Stack) → In s p → kept i p s ≡ true)
+  unfolding stackPlaces
+  stacks-kept kept amount = (
+    (λ e s m. unless-none (kept i p s) _ .0 (flatMap-none _ p .0 e s m)),
+    (λ f. flatMap-none _ p .1 (λ s m. unless-none (kept i p s) _ .1 (f s m))),
+  )
+
+  pub pairs-kept : (kept : Instance → Stack → Stack → Bool)
+      → (pairPlaces kept i p ≡ []) ↔ ((s r : Stack) → In s p → In r p → OneTruck s r → (number s ≡ number r → ⊥) → kept i s r ≡ true)
+  unfolding pairPlaces
+  pairs-kept kept = (
+    (λ e s r m n o d. among-none (another s r) (kept i s r) _ .0 (flatMap-none _ p .0 (flatMap-none _ p .0 e s m) r n) (another-reads s r .1 (o, d))),
+    (λ f. flatMap-none _ p .1 (λ s m. flatMap-none _ p .1 (λ r n. among-none (another s r) (kept i s r) _ .1 (λ e. let h = another-reads s r .0 e in f s r m n (h .0) (h .1))))),
+  )
+
+  pub trucks-kept : (kept : Instance → Truck → List Stack → Bool)
+      → (truckPlaces kept i p ≡ []) ↔ ((u : UsedTruck) → In u (usedTrucks p) → kept i (truckNumbered i (u .truck)) (stacksOn p u) ≡ true)
+  unfolding truckPlaces
+  trucks-kept kept = (
+    (λ e u m. unless-none (kept i (truckNumbered i (u .truck)) (stacksOn p u)) _ .0 (flatMap-none _ (usedTrucks p) .0 e u m)),
+    (λ f. flatMap-none _ (usedTrucks p) .1 (λ u m. unless-none (kept i (truckNumbered i (u .truck)) (stacksOn p u)) _ .1 (f u m))),
+  )
+
+  pub departures-kept : (kept : Instance → Truck → List Stack → Bool)
+      → (departurePlaces kept i p ≡ [])
+      ↔ ((u : UsedTruck) → In u (usedTrucks p) → (k : ℕ) → In k (departures i u) → counts (stacksAt i p u k) ≡ true
+      → kept i (truckNumbered i (u .truck)) (stacksAt i p u k) ≡ true)
+  unfolding departurePlaces
+  departures-kept kept = (
+    (λ e u m k n.
+        among-none (counts (stacksAt i p u k)) (kept i (truckNumbered i (u .truck)) (stacksAt i p u k)) _ .0
+        (flatMap-none _ (departures i u) .0 (flatMap-none _ (usedTrucks p) .0 e u m) k n)),
+    (λ f. flatMap-none _ (usedTrucks p) .1 (λ u m. flatMap-none _ (departures i u) .1 (λ k n.
+        among-none (counts (stacksAt i p u k)) (kept i (truckNumbered i (u .truck)) (stacksAt i p u k)) _ .1 (f u m k n)))),
+  )
