@@ -3,3 +3,10 @@ pub mod Lists
 pub mod Orders
 pub mod RuleKinds
 pub mod Sound
+pub mod Ring
+pub mod Extents
+pub mod Chains
+pub mod LoadingOrder
+pub mod SignedSums
+pub mod Heights
+pub mod Levers

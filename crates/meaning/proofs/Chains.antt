@@ -1,0 +1,111 @@
+-- Rule 24 says that every stack begins a chain of contacts to the front wall.
+use mathlib.Core.Path.{_≡_, ap}
+use mathlib.Core.Logic.{_⊎_, inl, inr, ⊎-elim, _↔_}
+use mathlib.Core.Bool.{true, _&&_, _||_}
+use mathlib.Core.List.{List, [], _∷_}
+use Prim.Native.Nat.{ℕ, zero, suc, _≤_, max}
+use native.Mathlib.Nat.{le-refl}
+use native.Mathlib.Omega.{arith}
+use borrow.Author.Tests.{leb-true, le-leb, eqb-true, eq-eqb}
+use lib.Dec.{leb, eqb}
+use Rattle.meaning.specs.Lists.{any, In}
+use Rattle.meaning.specs.Model.{Instance, Stack, number, x, y}
+use Rattle.meaning.specs.Measures.{another, xe, ye}
+use Rattle.meaning.specs.Rules.{stackPlaces, holds, braced, noAmount}
+use Rattle.meaning.specs.Feasible.{OneTruck, Contact, Chain}
+use Rattle.meaning.proofs.Tests.{and-reads, or-reads}
+use Rattle.meaning.proofs.Lists.{any-reads}
+use Rattle.meaning.proofs.RuleKinds.{another-reads, stacks-kept}
+use Rattle.meaning.proofs.Sound.{Sound}
+use Rattle.meaning.proofs.Extents.{Ends, sound-ends}
+
+-- the rule's test is a contact
+contact-reads : (i : Instance) (s r : Stack) → Ends i s → Ends i r → (holds i s r ≡ true) ↔ Contact i s r
+contact-reads i s r a b = (
+  (λ e.
+      let h = and-reads (eqb (xe i r) (x s) && leb (y s) (ye i r)) (leb (y r) (ye i s)) .0 e in
+      let k = and-reads (eqb (xe i r) (x s)) (leb (y s) (ye i r)) .0 (h .0) in
+      let e₁ : xe i r ≡ x s = eqb-true _ _ (k .0) in
+      let h₁ : y s ≤ ye i r = leb-true _ _ (k .1) in
+      let h₂ : y r ≤ ye i s = leb-true _ _ (h .1) in
+      record {
+        meets = omega (arith, b .atX, e₁);
+        v = max (y s) (y r);
+        ofFirst = (omega arith, omega (arith, a .atY, a .wide));
+        ofNext = (omega arith, omega (arith, b .atY, b .wide));
+      }),
+  (λ c.
+      and-reads (eqb (xe i r) (x s) && leb (y s) (ye i r)) (leb (y r) (ye i s)) .1 (
+        and-reads (eqb (xe i r) (x s)) (leb (y s) (ye i r)) .1
+            (eq-eqb (xe i r) (x s) (omega (arith, b .atX, c .meets)), le-leb (y s) (ye i r) (omega (arith, b .atY, c .ofFirst .0, c .ofNext .1))),
+        le-leb (y r) (ye i s) (omega (arith, a .atY, c .ofNext .0, c .ofFirst .1)),
+      )),
+)
+
+chain-in : (i : Instance) (p : List Stack) (s : Stack) (rest : List Stack) → Chain i p (s ∷ rest) → In s p
+chain-in i p s [] h = h .0
+chain-in i p s (r ∷ rest) h = h .0
+
+module _ (i : Instance) (p : List Stack) (sound : Sound i p) where
+  -- another stack of its used truck that holds a stack
+  record HeldBy (s : Stack) : Type 0 where
+    by : Stack
+    there : In by p
+    together : OneTruck s by
+    other : number s ≡ number by → ⊥
+    contact : Contact i s by
+
+  ends : (s : Stack) → In s p → Ends i s
+  ends s m = sound-ends i s (sound .stacks s m)
+
+  abbrev someHolds : Stack → mathlib.Core.Bool.Bool
+  someHolds s = any (λ (r : Stack). another s r && holds i s r) p
+
+  braced-reads : (s : Stack) → In s p → (braced i p s ≡ true) ↔ ((x s ≡ 0) ⊎ HeldBy s)
+  braced-reads s m = (
+    (λ e.
+        ⊎-elim (λ k. inl (eqb-true (x s) 0 k))
+        (λ k.
+        let w = any-reads (λ (r : Stack). another s r && holds i s r) p .0 k in
+        let h = and-reads (another s (w .0)) (holds i s (w .0)) .0 (w .2) in
+        let o = another-reads s (w .0) .0 (h .0) in
+        inr (record { by = w .0; there = w .1; together = o .0; other = o .1; contact = contact-reads i s (w .0) (ends s m) (ends (w .0) (w .1)) .0 (h .1) }))
+        (or-reads (eqb (x s) 0) (someHolds s) .0 e)),
+    (λ h.
+        or-reads (eqb (x s) 0) (someHolds s) .1
+        (⊎-elim (λ k. inl (eq-eqb (x s) 0 k))
+        (λ b.
+        inr (any-reads (λ (r : Stack). another s r && holds i s r) p .1 (
+          b .by,
+          b .there,
+          and-reads (another s (b .by)) (holds i s (b .by)) .1
+              (another-reads s (b .by) .1 (b .together, b .other), contact-reads i s (b .by) (ends s m) (ends (b .by) (b .there)) .1 (b .contact)),
+        ))) h)),
+  )
+
+  -- the next stack of a chain begins at a smaller x, so the chain comes to the wall
+  chain-from : ((s : Stack) → In s p → (x s ≡ 0) ⊎ HeldBy s) → (n : ℕ) (s : Stack) → In s p → x s ≤ n → (rest : List Stack) × Chain i p (s ∷ rest)
+  chain-from f zero s m h = ([], (m, omega arith))
+  chain-from f (suc n) s m h =
+      ⊎-elim (λ e. ([], (m, e)))
+      (λ b.
+      let k = ends (b .by) (b .there) in
+      let w = chain-from f n (b .by) (b .there) (omega (arith, b .contact .meets, k .atX, k .long)) in
+      (b .by ∷ w .0, (m, b .together, b .contact, w .1)))
+      (f s m)
+
+  -- a stack does not end where it begins, so the next stack of a chain is another one
+  chain-holds : (s : Stack) → In s p → (rest : List Stack) → Chain i p (s ∷ rest) → (x s ≡ 0) ⊎ HeldBy s
+  chain-holds s m [] h = inl (h .1)
+  chain-holds s m (r ∷ rest) h =
+      let n = chain-in i p r rest (h .3) in
+      let k = ends r n in
+      let other : number s ≡ number r → ⊥ = λ q. let z : x s ≡ x r = ap x (sound .known s r m n q) in omega (arith, z, h .2 .meets, k .atX, k .long) in
+      inr (record { by = r; there = n; together = h .1; other = other; contact = h .2 })
+
+  -- 24 unbraced
+  pub chains-exactly : (stackPlaces braced noAmount i p ≡ []) ↔ ((s : Stack) → In s p → (rest : List Stack) × Chain i p (s ∷ rest))
+  chains-exactly = (
+    (λ e s m. chain-from (λ r n. braced-reads r n .0 (stacks-kept i p braced noAmount .0 e r n)) (x s) s m (le-refl (x s))),
+    (λ g. stacks-kept i p braced noAmount .1 (λ s m. let w = g s m in braced-reads s m .1 (chain-holds s m (w .0) (w .1)))),
+  )

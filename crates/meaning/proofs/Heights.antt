@@ -1,0 +1,69 @@
+-- Rule 22 says of a stack that it ends on the floor and that its height, worked out in signed numbers, is at most the limit.
+use mathlib.Core.Path.{_≡_, refl, ap, ap₂, _∙_}
+use mathlib.Core.Logic.{inl, inr, _↔_}
+use mathlib.Core.Bool.{Bool, true, not, _&&_}
+use mathlib.Core.List.{List, [], _∷_}
+use Prim.Native.Nat.{ℕ, _+_, _-_, _≤_}
+use native.Mathlib.Omega.{arith}
+use borrow.Author.Tests.{leb-true, le-leb}
+use lib.IntN.{ℤ, pos, _-ℤ_}
+use lib.Signed.{_≤ℤ_}
+use lib.ListN.{drop}
+use Rattle.meaning.specs.Lists.{In, sum}
+use Rattle.meaning.specs.Model.{Instance, Stack, item, truckOf, IH, nesting, TL, TW, TH}
+use Rattle.meaning.specs.Measures.{above, xe, ye, height}
+use Rattle.meaning.specs.Rules.{stackPlaces, lengthFits, widthFits, heightFits, inside, dimension}
+use Rattle.meaning.specs.Feasible.{heightOf}
+use Rattle.meaning.proofs.Tests.{and-reads}
+use Rattle.meaning.proofs.RuleKinds.{stacks-kept}
+use Rattle.meaning.proofs.Ring.{less, of-pos, same-less, ring}
+use Rattle.meaning.proofs.SignedSums.{sum-signed, le-signed}
+use Rattle.meaning.proofs.Sound.{SoundStack, Sound}
+
+-- a difference that is not negative
+minus-signed : (a b : ℕ) → b ≤ a → pos a -ℤ pos b ≡ pos (a - b)
+minus-signed a b h = simp ring (same-less _ _ _ _ (omega arith))
+
+sum-below : (f g : ℕ → ℕ) (l : List ℕ) → ((n : ℕ) → In n l → f n ≤ g n) → sum f l ≤ sum g l
+unfolding sum
+sum-below f g [] h = omega arith
+sum-below f g (n ∷ l) h = let k = sum-below f g l (λ m e. h m (inr e)) in omega (arith, h n (inl refl), k)
+
+sum-tail : (f : ℕ → ℕ) (l : List ℕ) → sum f (drop 1 l) ≤ sum f l
+unfolding sum
+sum-tail f [] = omega arith
+sum-tail f (n ∷ l) = omega arith
+
+-- an item nests no deeper than it is high, so nothing is cut off in the rule's difference
+height-signed : (i : Instance) (s : Stack) → SoundStack i s → heightOf i s ≡ pos (height i s)
+unfolding height
+height-signed i s h =
+    let high : ℕ → ℕ = λ n. IH (item i n) in
+    let deep : ℕ → ℕ = λ n. nesting (item i n) in
+    ap₂ _-ℤ_ (sum-signed high (s .load)) (sum-signed deep (above s))
+    ∙ minus-signed (sum high (s .load)) (sum deep (above s)) (omega (arith, sum-tail deep (s .load), sum-below deep high (s .load) (h .nested)))
+
+module _ (i : Instance) (p : List Stack) (sound : Sound i p) where
+  -- 22 outside, by its three dimensions
+  abbrev pub Inside : Stack → Type 0
+  Inside s = (xe i s ≤ TL (truckOf i s)) × (ye i s ≤ TW (truckOf i s)) × (heightOf i s ≤ℤ pos (TH (truckOf i s)))
+
+  inside-reads : (s : Stack) → In s p → (inside i p s ≡ true) ↔ Inside s
+  inside-reads s m =
+      let signed = height-signed i s (sound .stacks s m) in (
+        (λ e.
+            let h = and-reads (lengthFits i s && widthFits i s) (heightFits i s) .0 e in
+            let k = and-reads (lengthFits i s) (widthFits i s) .0 (h .0) in
+            (leb-true _ _ (k .0), leb-true _ _ (k .1), rw signed (le-signed (height i s) (TH (truckOf i s)) .1 (leb-true _ _ (h .1))))),
+        (λ h.
+            and-reads (lengthFits i s && widthFits i s) (heightFits i s) .1 (
+              and-reads (lengthFits i s) (widthFits i s) .1 (le-leb _ _ (h .0), le-leb _ _ (h .1)),
+              le-leb _ _ (le-signed (height i s) (TH (truckOf i s)) .0 (rw signed at (h .2))),
+            )),
+      )
+
+  pub inside-exactly : (stackPlaces inside dimension i p ≡ []) ↔ ((s : Stack) → In s p → Inside s)
+  inside-exactly = (
+    (λ e s m. inside-reads s m .0 (stacks-kept i p inside dimension .0 e s m)),
+    (λ f. stacks-kept i p inside dimension .1 (λ s m. inside-reads s m .1 (f s m))),
+  )
