@@ -171,9 +171,8 @@ module _ (i : Instance) (t : Truck) (on : List Stack) (ends : (s : Stack) → In
   unfolding rearFits H
   rear-reads = rw (rear-all (EJhr t) (EM t) (EJcr t) (weightOn i on) (sumℤ (lever i t) on), rear-sum) (leZ-reads _ _)
 
--- ---- the rules
-module _ (i : Instance) (p : List Stack) (sound : Sound i p) where
-  -- 26 overload
+-- ---- 26 overload
+module _ (i : Instance) (p : List Stack) where
   weight-reads : (s : Stack) → (loadFits i (truckOf i s) (stacksOn p (usedBy s)) ≡ true)
       ↔ (sumWhere (onTruckOf s) (λ r. weightOf i (r .load)) p ≤ℤ pos (TMm (truckOf i s)))
   unfolding loadFits weightOn stacksOn
@@ -192,6 +191,8 @@ module _ (i : Instance) (p : List Stack) (sound : Sound i p) where
         subst (λ (v : UsedTruck). loadFits i (truckNumbered i (v .truck)) (stacksOn p v) ≡ true) (sym (w .2)) (weight-reads (w .0) .1 (f (w .0) (w .1))))),
   )
 
+-- ---- 27 and 28
+module _ (i : Instance) (p : List Stack) (sound : Sound i p) where
   -- the ends of the stacks that are on
   on-ends : (s : Stack) (k : ℕ) (r : Stack) → In r (filter (onAt i s k) p) → endX i r ≡ xe i r
   on-ends s k r m = sound-ends i r (sound .stacks r (in-filter (onAt i s k) p r .0 m .0)) .atX

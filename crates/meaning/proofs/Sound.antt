@@ -1,14 +1,22 @@
--- What the ranges of a readable plan give to the picture: sizes that are not zero, orientations 1 and 2, lists without repeats, and stacks
--- that are known by their numbers.
-use mathlib.Core.Path.{_≡_}
-use mathlib.Core.Logic.{_⊎_}
-use mathlib.Core.Bool.{true}
-use mathlib.Core.List.{List}
-use Prim.Native.Nat.{ℕ, _≤_}
-use lib.ListN.{getD}
-use Rattle.meaning.specs.Lists.{In, Every, distinct}
-use Rattle.meaning.specs.Model.{Instance, Stack, item, truckOf, number, orientation, IL, IW, IH, nesting}
+-- What the ranges of a readable plan give to the picture: sizes that are not zero, orientations 1 and 2, lists without repeats, stacks known by their numbers.
+use mathlib.Core.Path.{_≡_, sym, ap, subst, _∙_}
+use mathlib.Core.Logic.{_⊎_, inl, inr, ⊎-elim}
+use mathlib.Core.Bool.{true, not}
+use mathlib.Core.List.{List, [], _∷_}
+use Prim.Native.Nat.{ℕ, zero, suc, _+_, _-_, _≤_, _<_}
+use Prim.Native.String.{String}
+use native.Mathlib.Nat.{eq-or-lt-of-le}
+use native.Mathlib.Omega.{arith}
+use lib.Dec.{leb}
+use lib.ListN.{length, getD}
+use Rattle.meaning.specs.declared.Limits.{Limits}
+use Rattle.meaning.specs.Lists.{In, Every, all, listed, distinct, between}
+use Rattle.meaning.specs.Model.{Instance, Stack, Item, item, noTruck, truckOf, stackNumber, number, truck, orientation, IL, IW, IH, nesting}
 use Rattle.meaning.specs.Measures.{bottom}
+use Rattle.meaning.specs.Files.{Range, _to_, allWithin, itemRanges, stackRanges, identifiersLine, docksLine, itemLine, stackLine, loadLine}
+use Rattle.meaning.specs.InRange.{Meets, TruckInRange, InstanceInRange, StacksInRange, InRange}
+use Rattle.meaning.proofs.Tests.{and-reads, not-reads, between-reads}
+use Rattle.meaning.proofs.Lists.{all-reads, every-map, every-at, at-in, listed-reads}
 
 pub record SoundStack (i : Instance) (s : Stack) : Type 0 where
   pub some : In (getD (s .load) 0 0) (s .load)
@@ -23,3 +31,98 @@ pub record SoundStack (i : Instance) (s : Stack) : Type 0 where
 pub record Sound (i : Instance) (p : List Stack) : Type 0 where
   pub stacks : (s : Stack) → In s p → SoundStack i s
   pub known : (s r : Stack) → In s p → In r p → number s ≡ number r → s ≡ r
+
+-- ---- fields
+-- a number lies in a range
+abbrev Within : Range → ℕ → Type 0
+Within r n = (r .low ≤ n) × (n ≤ r .high)
+
+-- the field at a place lies in the range at that place
+field-within : (rs : List Range) (ns : List ℕ) (k : ℕ) → allWithin rs ns ≡ true → k < length rs → k < length ns → Within (getD rs k (0 to 0)) (getD ns k 0)
+unfolding allWithin
+field-within [] ns k e h l = absurd (omega arith)
+field-within (r ∷ rs) [] k e h l = absurd (omega arith)
+field-within (r ∷ rs) (n ∷ ns) zero e h l = between-reads (r .low) (r .high) n .0 (and-reads (between (r .low) (r .high) n) (allWithin rs ns) .0 e .0)
+field-within (r ∷ rs) (n ∷ ns) (suc k) e h l =
+    field-within rs ns k (and-reads (between (r .low) (r .high) n) (allWithin rs ns) .0 e .1) (omega arith) (omega arith)
+
+-- this for the fields of an item, and for those of a stack
+item-within : (a : Item) → Meets itemLine a → (k : ℕ) → k < 16 → Within (getD (itemRanges a) k (0 to 0)) (getD a k 0)
+item-within a h k l = field-within (itemRanges a) a k (h .fits) l (omega (arith, h .least))
+
+stack-within : (trucks : ℕ) (taken ns : List ℕ) → Meets (stackLine trucks taken) ns → (k : ℕ) → k < 6
+    → Within (getD (stackRanges trucks) k (0 to 0)) (getD ns k 0)
+stack-within trucks taken ns h k l =
+    let e = and-reads (allWithin (stackRanges trucks) ns) (not (listed (stackNumber ns) taken)) .0 (h .fits) in
+    field-within (stackRanges trucks) ns k (e .0) l (omega (arith, h .least))
+
+-- a range that leaves two values, as an orientation has
+one-or-two : (n : ℕ) → Within (1 to 2) n → (n ≡ 1) ⊎ (n ≡ 2)
+one-or-two n h = ⊎-elim (λ e. inl (sym e)) (λ l. inr (omega (arith, h, l))) (eq-or-lt-of-le (h .0))
+
+-- the identifiers of a line are without repeats
+line-distinct : (key : String) (most : ℕ) (ns : List ℕ) → Meets (identifiersLine key most) ns → distinct ns ≡ true
+line-distinct key most ns h = and-reads (all (between 1 65535) ns) (distinct ns) .0 (h .fits) .1
+
+-- ---- the stacks of an instance in range
+module _ {m : Limits} {i : Instance} (h : InstanceInRange m i) where
+  -- each number of a load is that of an item, which is in range
+  loaded-meets : (held : ℕ) (ns : List ℕ) → Meets (loadLine (m .loads) (length (i .items)) held) ns → (n : ℕ) → In n ns → Meets itemLine (item i n)
+  loaded-meets held ns l n k =
+      let e = and-reads (all (between 1 (length (i .items))) ns) (leb (held + length ns) (m .loads)) .0 (l .fits) in
+      let b = between-reads 1 (length (i .items)) n .0 (all-reads (between 1 (length (i .items))) ns .0 (e .0) n k) in
+      every-at (Meets itemLine) (i .items) [] (n - 1) (h .items) (omega (arith, b))
+
+  -- what the two lines of a stack give
+  stack-sound : (s : Stack) (taken : List ℕ) (held : ℕ) → Meets (stackLine (length (i .trucks)) taken) (s .fields)
+      → Meets (loadLine (m .loads) (length (i .items)) held) (s .load) → SoundStack i s
+  stack-sound s taken held f l =
+      let first = at-in (s .load) 0 0 (l .least) in
+      let meets = loaded-meets held (s .load) l in
+      let base = meets (getD (s .load) 0 0) first in
+      let field = stack-within (length (i .trucks)) taken (s .fields) f in
+      let ofTruck = every-at TruckInRange (i .trucks) noTruck (truck s - 1) (h .trucks) (omega (arith, field 1 (omega arith))) in
+      record {
+        some = first;
+        turned = one-or-two (orientation s) (field 5 (omega arith));
+        long = item-within (bottom i s) base 0 (omega arith) .0;
+        wide = item-within (bottom i s) base 1 (omega arith) .0;
+        nested = λ n k. omega (arith, item-within (item i n) (meets n k) 3 (omega arith));
+        suppliers = line-distinct _ _ _ (ofTruck .suppliers);
+        docks = every-map (Meets docksLine) _ (line-distinct _ _) (truckOf i s .docks) (ofTruck .docks);
+        plantDocks = line-distinct _ _ _ (ofTruck .plantDocks);
+      }
+
+  -- and so every stack, whatever stands before it
+  stacks-sound : (taken : List ℕ) (held : ℕ) (p : List Stack) → StacksInRange (m .loads) (length (i .items)) (length (i .trucks)) taken held p
+      → (s : Stack) → In s p → SoundStack i s
+  stacks-sound taken held [] k s n = absurd n
+  stacks-sound taken held (r ∷ p) k s (inl e) = subst (SoundStack i) (sym e) (stack-sound r taken held (k .0) (k .1))
+  stacks-sound taken held (r ∷ p) k s (inr n) = stacks-sound _ _ p (k .2) s n
+
+-- ---- the numbers of the stacks
+module _ (most items trucks : ℕ) where
+  -- no stack has a number that is taken
+  not-taken : (taken : List ℕ) (held : ℕ) (p : List Stack) → StacksInRange most items trucks taken held p
+      → (s : Stack) → In s p → In (number s) taken → ⊥
+  not-taken taken held [] h s m k = m
+  not-taken taken held (r ∷ p) h s (inl e) k =
+      let f = and-reads (allWithin (stackRanges trucks) (r .fields)) (not (listed (number r) taken)) .0 (h .0 .fits) in
+      not-reads (listed (number r) taken) .0 (f .1) (listed-reads (number r) taken .1 (subst (λ (z : Stack). In (number z) taken) e k))
+  not-taken taken held (r ∷ p) h s (inr m) k = not-taken _ _ p (h .2) s m (inr k)
+
+  -- so two stacks with one number are one stack
+  known-by-number : (taken : List ℕ) (held : ℕ) (p : List Stack) → StacksInRange most items trucks taken held p
+      → (s r : Stack) → In s p → In r p → number s ≡ number r → s ≡ r
+  known-by-number taken held [] h s r m n e = absurd m
+  known-by-number taken held (q ∷ p) h s r (inl a) (inl b) e = a ∙ sym b
+  known-by-number taken held (q ∷ p) h s r (inl a) (inr n) e = absurd (not-taken _ _ p (h .2) r n (inl (sym e ∙ ap number a)))
+  known-by-number taken held (q ∷ p) h s r (inr m) (inl b) e = absurd (not-taken _ _ p (h .2) s m (inl (e ∙ ap number b)))
+  known-by-number taken held (q ∷ p) h s r (inr m) (inr n) e = known-by-number _ _ p (h .2) s r m n e
+
+pub in-range-sound : (m : Limits) (i : Instance) (p : List Stack) → InRange m i p → Sound i p
+in-range-sound m i p h =
+    record {
+      stacks = stacks-sound (h .instance) [] 0 p (h .stacks);
+      known = known-by-number (m .loads) (length (i .items)) (length (i .trucks)) [] 0 p (h .stacks);
+    }

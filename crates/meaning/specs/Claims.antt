@@ -59,7 +59,7 @@ RefusedExactly =
     → rules ≡ before ++ r ∷ after → Every (KeptBy i p) before → lowest (r .places i p) ≡ some q
     → verdictOn i p ≡ refusal (r .verdict) q
 
--- ---- reading (proofs/Reads: read-in-range, read-fits; proofs/Printed: read-printed)
+-- ---- reading (proofs/Ranges: read-in-range, read-fits; proofs/Printed: read-printed)
 -- what is read has every entry in range
 abbrev pub ReadInRange : Limits → Type 0
 ReadInRange m = (instance plan : List ℕ) (r : Readable m instance plan) → InRange m (r .says) (r .stacks)
@@ -76,7 +76,7 @@ pub record IsPrinted (instance plan : List ℕ) (i : Instance) (p : List Stack) 
 abbrev pub ReadPrinted : Limits → Type 0
 ReadPrinted m = (instance plan : List ℕ) (r : Readable m instance plan) → IsPrinted instance plan (r .says) (r .stacks)
 
--- ---- the table (proofs/Decode: decodes, words-length)
+-- ---- the table (proofs/Decode: decodes)
 -- the words of a model with room in the table hold that model, and are as many as are named
 pub record Decoded (m : Limits) (table : List ℕ) (i : Instance) (p : List Stack) : Type 0 where
   pub instance : instanceIn m table ≡ i

@@ -1,5 +1,5 @@
 -- Document 01, "The picture of demand 3": a feasible load. It is worked out from what the two files say (Model) and from nothing that the
--- rules use: no test, no list of used trucks or departures, no measure of theirs. Every difference is in signed whole numbers.
+-- rules use: no test of theirs, no list of used trucks or departures, no measure. Every difference is in signed whole numbers.
 use mathlib.Core.Path.{_≡_}
 use mathlib.Core.Bool.{Bool, true, cond, _&&_}
 use mathlib.Core.Logic.{_⊎_}

@@ -17,3 +17,4 @@ pub mod Print
 pub mod InRange
 pub mod Claims
 pub mod Example
+pub mod Examples

@@ -1,0 +1,237 @@
+-- The words of a model with room in the table hold that model, and are as many as are named.
+use mathlib.Core.Path.{_≡_, refl, sym, ap, ap₂, _∙_}
+use mathlib.Core.List.{List, [], _∷_, _++_, map, flatMap, append-assoc, append-nil, map-id}
+use Prim.Native.Nat.{ℕ, zero, suc, _+_, _-_, _*_, _≤_}
+use native.Mathlib.Nat.{mul-le-mul-left}
+use native.Mathlib.Omega.{arith}
+use lib.ListN.{length, getD, take, drop, replicate, length-append, length-replicate, length-map}
+use lib.Seq.{take-at, drop-at, getD-at}
+use Rattle.meaning.specs.declared.Limits.{Limits}
+use Rattle.meaning.specs.Lists.{Every, chunks, padded}
+use Rattle.meaning.specs.Limits.{itemsAt, trucksAt, stacksAt, loadsAt, named}
+use Rattle.meaning.specs.Model.{Instance, Truck, Stack, Item}
+use Rattle.meaning.specs.Table.{headWords, countedWords, truckWords, stackWords, loadEntries, words, cutRows, truckIn, instanceIn, stackIn, stacksIn}
+use Rattle.meaning.specs.InRange.{TruckFits, Fits}
+use Rattle.meaning.specs.Claims.{Decodes}
+use Rattle.meaning.proofs.Lists.{every-map}
+
+-- ---- words in parts
+-- from word `at` on, ws is `rest`
+record From (ws : List ℕ) (at : ℕ) (rest : List ℕ) : Type 0 where
+  front : List ℕ
+  whole : ws ≡ front ++ rest
+  width : length front ≡ at
+
+start : (ws : List ℕ) → From ws 0 ws
+start ws = record { front = []; whole = refl; width = refl }
+
+module _ {ws : List ℕ} {at : ℕ} where
+  -- past a part of w words
+  past : (w : ℕ) (part rest : List ℕ) → From ws at (part ++ rest) → length part ≡ w → From ws (at + w) rest
+  past w part rest h e =
+      record {
+        front = h .front ++ part;
+        whole = h .whole ∙ sym (append-assoc (h .front) part rest);
+        width = length-append (h .front) part ∙ ap₂ _+_ (h .width) e;
+      }
+
+  -- the last part has no words behind it
+  last : (part : List ℕ) → From ws at part → From ws at (part ++ [])
+  last part h = rw (append-nil part) h
+
+  -- so many words stand before the end
+  length-whole : From ws at [] → length ws ≡ at
+  length-whole h = ap length (h .whole ∙ append-nil (h .front)) ∙ h .width
+
+  drop-from : {rest : List ℕ} → From ws at rest → drop at ws ≡ rest
+  drop-from {rest} h = ap (drop at) (h .whole) ∙ drop-at (h .front) rest at (h .width)
+
+  word-at : {n : ℕ} {rest : List ℕ} → From ws at (n ∷ rest) → getD ws at 0 ≡ n
+  word-at {n} {rest} h = ap (λ (l : List ℕ). getD l at 0) (h .whole) ∙ getD-at (h .front) n rest 0 at (h .width)
+
+-- ---- padded parts
+length-padded : (w : ℕ) (l : List ℕ) → length l ≤ w → length (padded w l) ≡ w
+length-padded w l h = simp (length-append, length-replicate) (omega arith)
+
+-- a part of entries behind their count
+length-counted : (w : ℕ) (l : List ℕ) → length l ≤ w → length (countedWords w l) ≡ suc w
+length-counted w l h = ap suc (length-padded w l h)
+
+module _ {ws : List ℕ} {at : ℕ} (w : ℕ) (l rest : List ℕ) where
+  -- a padded part begins with its entries
+  drop-padded : From ws at (padded w l ++ rest) → drop at ws ≡ l ++ (replicate (w - length l) 0 ++ rest)
+  drop-padded h = drop-from h ∙ append-assoc l (replicate (w - length l) 0) rest
+
+  take-padded : (n : ℕ) → n ≡ length l → From ws at (padded w l ++ rest) → take n (drop at ws) ≡ l
+  take-padded n e h = ap (take n) (drop-padded h) ∙ take-at l (replicate (w - length l) 0 ++ rest) n (sym e)
+
+-- the count says how many entries are behind it
+take-counted : {ws : List ℕ} {at : ℕ} (w : ℕ) (l rest : List ℕ) → From ws at (countedWords w l ++ rest) → take (getD ws at 0) (drop (at + 1) ws) ≡ l
+take-counted {ws} {at} w l rest h = take-padded w l rest (getD ws at 0) (word-at h) (past 1 (length l ∷ []) (padded w l ++ rest) h refl)
+
+-- ---- runs of w words each
+module _ {A : Type 0} (w : ℕ) (f : A → List ℕ) where
+  -- cutting gives the runs back
+  chunks-flatMap : (l : List A) (rest : List ℕ) → Every (λ a. length (f a) ≡ w) l → chunks w (length l) (flatMap f l ++ rest) ≡ map f l
+  unfolding chunks flatMap
+  chunks-flatMap [] rest h = refl
+  chunks-flatMap (a ∷ l) rest h =
+      rw (append-assoc (f a) (flatMap f l) rest, take-at (f a) (flatMap f l ++ rest) w (h .0), drop-at (f a) (flatMap f l ++ rest) w (h .0))
+      (ap {B = List (List ℕ)} (λ r. f a ∷ r) (chunks-flatMap l rest (h .1)))
+
+  length-flatMap : (l : List A) → Every (λ a. length (f a) ≡ w) l → length (flatMap f l) ≡ w * length l
+  unfolding flatMap
+  length-flatMap [] h = omega arith
+  length-flatMap (a ∷ l) h = rw (length-append (f a) (flatMap f l), h .0, length-flatMap l (h .1)) (omega arith)
+
+  -- a part with room for `most` runs
+  module _ (most : ℕ) (l : List A) (each : Every (λ a. length (f a) ≡ w) l) where
+    length-runs : length l ≤ most → length (padded (w * most) (flatMap f l)) ≡ w * most
+    length-runs h = length-padded (w * most) (flatMap f l) (omega (arith, length-flatMap l each, mul-le-mul-left w h))
+
+    chunks-runs : {ws : List ℕ} {at : ℕ} (rest : List ℕ) → From ws at (padded (w * most) (flatMap f l) ++ rest) → chunks w (length l) (drop at ws) ≡ map f l
+    chunks-runs rest h = ap (chunks w (length l)) (drop-padded (w * most) (flatMap f l) rest h) ∙ chunks-flatMap l _ each
+
+-- ---- a truck
+-- the docks, each list cut from its row
+cut-docks : (n : ℕ) (ds : List (List ℕ)) (rest : List ℕ) → length ds ≤ n → Every (λ (d : List ℕ). length d ≤ 8) ds
+    → cutRows (map length ds) (chunks 8 n (flatMap (padded 8) ds ++ rest)) ≡ ds
+unfolding cutRows chunks flatMap
+cut-docks n [] rest h k = refl
+cut-docks zero (d ∷ ds) rest h k = absurd (omega arith)
+cut-docks (suc n) (d ∷ ds) rest h k =
+    let later = flatMap (padded 8) ds ++ rest in
+    let e : length (padded 8 d) ≡ 8 = length-padded 8 d (k .0) in
+    rw (append-assoc (padded 8 d) (flatMap (padded 8) ds) rest, take-at (padded 8 d) later 8 e, drop-at (padded 8 d) later 8 e)
+    (ap₂ {C = List (List ℕ)} (λ a r. a ∷ r) (take-at d (replicate (8 - length d) 0) (length d) refl) (cut-docks n ds rest (omega arith) (k .1)))
+
+-- the words of a truck hold it, and are 160: both from where its parts begin
+truck-held : (t : Truck) → TruckFits t → (truckIn (truckWords t) ≡ t) × (length (truckWords t) ≡ 160)
+unfolding truckIn truckWords
+truck-held t h =
+    let ws = truckWords t in
+    let dockCounts = map length (t .docks) in
+    let dockRows = flatMap (padded 8) (t .docks) in
+    -- the parts behind the fields
+    let plantDocks = countedWords 25 (t .plantDocks) in
+    let rows = padded 64 dockRows in
+    let counts = padded 8 dockCounts in
+    let suppliers = countedWords 8 (t .suppliers) in
+    let products = countedWords 32 (t .products) in
+    -- where each begins
+    let few : length (t .docks) ≤ 8 = omega (arith, h .dockLines, h .suppliers) in
+    let eights = every-map _ _ (length-padded 8) (t .docks) (h .docks) in
+    let from20 : From ws 20 _ = past 20 (t .fields) (products ++ (suppliers ++ (counts ++ (rows ++ plantDocks)))) (start ws) (h .fields) in
+    let from53 : From ws 53 _ = past 33 products (suppliers ++ (counts ++ (rows ++ plantDocks))) from20 (length-counted 32 (t .products) (h .products)) in
+    let from62 : From ws 62 _ = past 9 suppliers (counts ++ (rows ++ plantDocks)) from53 (length-counted 8 (t .suppliers) (h .suppliers)) in
+    let from70 : From ws 70 _ = past 8 counts (rows ++ plantDocks) from62 (length-padded 8 dockCounts (omega (arith, length-map (t .docks) length))) in
+    let from134 : From ws 134 _ = last plantDocks (past 64 rows plantDocks from70 (length-runs 8 (padded 8) 8 (t .docks) eights few)) in
+    let from160 : From ws 160 [] = past 26 plantDocks [] from134 (length-counted 25 (t .plantDocks) (omega (arith, h .plantDocks))) in
+    -- what they hold
+    let fields : take 20 ws ≡ t .fields = take-at (t .fields) _ 20 (h .fields) in
+    let docksCounted : getD ws 53 0 ≡ length dockCounts = word-at from53 ∙ sym (h .dockLines) ∙ sym (length-map (t .docks) length) in
+    let docks : cutRows (take (getD ws 53 0) (drop 62 ws)) (chunks 8 8 (drop 70 ws)) ≡ t .docks =
+    ap₂ cutRows (take-padded 8 dockCounts (rows ++ plantDocks) _ docksCounted from62) (ap (chunks 8 8) (drop-padded 64 dockRows plantDocks from70))
+    ∙ cut-docks 8 (t .docks) _ few (h .docks)
+    in (
+      (λ j. record {
+        fields = fields j;
+        products = take-counted 32 (t .products) _ from20 j;
+        suppliers = take-counted 8 (t .suppliers) _ from53 j;
+        docks = docks j;
+        plantDocks = take-counted 25 (t .plantDocks) [] from134 j;
+      }),
+      length-whole from160,
+    )
+
+pub truck-decodes : (t : Truck) → TruckFits t → truckIn (truckWords t) ≡ t
+truck-decodes t h = truck-held t h .0
+
+pub truck-size : (t : Truck) → TruckFits t → length (truckWords t) ≡ 160
+truck-size t h = truck-held t h .1
+
+trucks-decode : (ts : List Truck) → Every TruckFits ts → map truckIn (map truckWords ts) ≡ ts
+trucks-decode [] h = refl
+trucks-decode (t ∷ ts) h = ap₂ {C = List Truck} (λ a r. a ∷ r) (truck-decodes t (h .0)) (trucks-decode ts (h .1))
+
+-- ---- stacks
+-- the words of one stack, with `before` load entries before its own
+abbrev stackRow : ℕ → Stack → List ℕ
+stackRow before s = s .fields ++ (before ∷ length (s .load) ∷ [])
+
+length-stackRow : (before : ℕ) (s : Stack) → length (s .fields) ≡ 6 → length (stackRow before s) ≡ 8
+length-stackRow before s h = simp length-append (omega arith)
+
+-- a stack whose load entries have the words `before` in front and `after` behind
+stack-decodes : (s : Stack) (before after : List ℕ) → length (s .fields) ≡ 6 → stackIn (before ++ (s .load ++ after)) (stackRow (length before) s) ≡ s
+unfolding stackIn
+stack-decodes s before after h =
+    let row = stackRow (length before) s in
+    let from6 : From row 6 (length before ∷ length (s .load) ∷ []) = past 6 (s .fields) _ (start row) h in
+    let from7 : From row 7 (length (s .load) ∷ []) = past 1 (length before ∷ []) _ from6 refl in
+    let fields : take 6 row ≡ s .fields = take-at (s .fields) _ 6 h in
+    let load : take (getD row 7 0) (drop (getD row 6 0) (before ++ (s .load ++ after))) ≡ s .load =
+    ap₂ take (word-at from7) (drop-at before (s .load ++ after) (getD row 6 0) (sym (word-at from6))) ∙ take-at (s .load) after (length (s .load)) refl
+    in
+    λ j. record { fields = fields j; load = load j }
+
+-- the same for the stacks of a plan, with more words behind theirs
+stacks-decode : (p : List Stack) (before after rest : List ℕ) → Every (λ (s : Stack). length (s .fields) ≡ 6) p
+    → map (stackIn (before ++ (loadEntries p ++ after))) (chunks 8 (length p) (stackWords (length before) p ++ rest)) ≡ p
+unfolding chunks loadEntries stackWords
+stacks-decode [] before after rest h = refl
+stacks-decode (s ∷ p) before after rest h =
+    let row = stackRow (length before) s in
+    let later = stackWords (length before + length (s .load)) p in
+    let e = length-stackRow (length before) s (h .0) in
+    rw (append-assoc (s .load) (loadEntries p) after, append-assoc row later rest, take-at row (later ++ rest) 8 e, drop-at row (later ++ rest) 8 e)
+    (ap₂ {C = List Stack} (λ a r. a ∷ r) (stack-decodes s before (loadEntries p ++ after) (h .0))
+    (rw (← append-assoc before (s .load) (loadEntries p ++ after), ← length-append before (s .load)) (stacks-decode p (before ++ s .load) after rest (h .1))))
+
+length-stackWords : (before : ℕ) (p : List Stack) → Every (λ (s : Stack). length (s .fields) ≡ 6) p → length (stackWords before p) ≡ 8 * length p
+unfolding stackWords
+length-stackWords before [] h = refl
+length-stackWords before (s ∷ p) h =
+    let later = before + length (s .load) in
+    rw (length-append (stackRow before s) (stackWords later p), length-stackRow before s (h .0), length-stackWords later p (h .1)) (omega arith)
+
+-- ---- the table
+pub decodes : (m : Limits) → Decodes m
+unfolding words headWords instanceIn stacksIn
+decodes m i p h =
+    let ws = words m i p in
+    -- the parts behind the first words
+    let loads = padded (m .loads) (loadEntries p) in
+    let stacks = padded (8 * m .stacks) (stackWords 0 p) in
+    let trucks = padded (160 * m .trucks) (flatMap truckWords (i .trucks)) in
+    let items = padded (16 * m .items) (flatMap (λ (a : Item). a) (i .items)) in
+    -- how long they are
+    let sizes = every-map TruckFits _ truck-size (i .trucks) (h .trucks) in
+    let itemsFill = length-runs 16 (λ (a : Item). a) (m .items) (i .items) (h .items) (h .itemCount) in
+    let trucksFill = length-runs 160 truckWords (m .trucks) (i .trucks) sizes (h .truckCount) in
+    let stacksFill = length-padded (8 * m .stacks) (stackWords 0 p) (omega (arith, length-stackWords 0 p (h .stacks), h .stackCount)) in
+    let loadsFill = length-padded (m .loads) (loadEntries p) (h .loads) in
+    -- where each begins
+    let fromItems : From ws itemsAt _ = past itemsAt (padded itemsAt (headWords i p)) (items ++ (trucks ++ (stacks ++ loads))) (start ws) refl in
+    let fromTrucks : From ws (trucksAt m) _ = past (16 * m .items) items (trucks ++ (stacks ++ loads)) fromItems itemsFill in
+    let fromStacks : From ws (stacksAt m) _ = past (160 * m .trucks) trucks (stacks ++ loads) fromTrucks trucksFill in
+    let fromLoads : From ws (loadsAt m) loads = past (8 * m .stacks) stacks loads fromStacks stacksFill in
+    let fromEnd : From ws (named m) [] = past (m .loads) loads [] (last loads fromLoads) loadsFill in
+    -- what they hold
+    let itemsHeld : chunks 16 (length (i .items)) (drop itemsAt ws) ≡ i .items =
+    chunks-runs 16 _ (m .items) (i .items) (h .items) (trucks ++ (stacks ++ loads)) fromItems ∙ map-id (i .items)
+    in
+    let trucksHeld : map truckIn (chunks 160 (length (i .trucks)) (drop (trucksAt m) ws)) ≡ i .trucks =
+    ap (map truckIn) (chunks-runs 160 truckWords (m .trucks) (i .trucks) sizes (stacks ++ loads) fromTrucks) ∙ trucks-decode (i .trucks) (h .trucks)
+    in
+    record {
+      instance = λ j. record { αT = i .αT; αI = i .αI; αE = i .αE; items = itemsHeld j; trucks = trucksHeld j };
+      stacks =
+          ap₂ (λ (l r : List ℕ). map (stackIn l) (chunks 8 (length p) r)) (drop-from fromLoads) (drop-padded (8 * m .stacks) (stackWords 0 p) loads fromStacks)
+          ∙ stacks-decode p [] _ _ (h .stacks);
+      size = length-whole fromEnd;
+    }
+
+-- so the words of the model that words hold are those words
+pub encodes : (m : Limits) (i : Instance) (p : List Stack) → Fits m i p → words m (instanceIn m (words m i p)) (stacksIn m (words m i p)) ≡ words m i p
+encodes m i p h = let d = decodes m i p h in ap₂ (words m) (d .instance) (d .stacks)

@@ -1,0 +1,214 @@
+-- Worked examples beside the ten edits: document 01's "Errors to shut out", and the readings of the paper that it settles. Each list of
+-- cases is one statement.
+use mathlib.Core.Path.{_≡_, refl}
+use mathlib.Core.List.{List, [], _∷_, _++_, map}
+use Prim.Native.Nat.{ℕ}
+use Prim.Native.String.{String}
+use lib.ListN.{replicate}
+use Rattle.meaning.specs.declared.Answer.{Answer}
+use Rattle.meaning.specs.Limits.{small}
+use Rattle.meaning.specs.Text.{bytes, commaParts}
+use Rattle.meaning.specs.Verdict.{acceptance}
+use Rattle.meaning.specs.Check.{answer}
+use Rattle.meaning.specs.BadLine.{Part, inInstance, inPlan, span, handedBack}
+use Rattle.meaning.specs.Print.{commaJoined}
+use Rattle.meaning.specs.Example.{Lines, lines, fileOf, Edit, entry, line, Case, instanceEdit, planEdit, answered, refusedWith, printedLoad, printedStacks, TH-entry}
+
+abbrev pub expected : Case → Answer
+expected c = c .expected
+
+-- a case with several edits
+abbrev pub edits : List Edit → List Edit → Answer → Case
+edits toInstance toPlan a = record { toInstance = toInstance; toPlan = toPlan; expected = a }
+
+-- ---- a load with two stops: two stacks of one item each, one behind the other, of suppliers 1 and 2. The rear axle is at 1500, so the
+-- second stack, from 1500 to 3000, is behind it. At departure 1 H is 1,500,000, at departure 2 it is 0
+abbrev pub twoStops : Lines
+twoStops =
+    lines (
+    "transport=1"
+    ∷ "inventory=0"
+    ∷ "extra=500"
+    ∷ "items=2"
+    ∷ "trucks=1"
+    ∷ "item=1500,1000,1000,0,1000,1,2,1,0,0,9,1,1,1,1,1"
+    ∷ "item=1500,1000,1000,0,1000,1,2,1,0,0,9,1,1,2,1,1"
+    ∷ "truck=6000,2400,3000,24000,1,5,1000,0,1500,100,0,1,0,1,0,1000,0,500,2000,750"
+    ∷ "products=1"
+    ∷ "suppliers=1,2"
+    ∷ "docks=1"
+    ∷ "docks=1"
+    ∷ "plantdocks=1"
+    ∷ []
+    )
+
+abbrev pub twoStacks : Lines
+twoStacks = lines ("stacks=2" ∷ "stack=1,1,0,0,0,1" ∷ "load=1" ∷ "stack=2,1,0,1500,0,1" ∷ "load=2" ∷ [])
+
+-- the accepted load costs one planned truck
+abbrev pub oneTruck : Answer
+oneTruck = acceptance 100000 1
+
+-- entries of the truck's line
+abbrev pub TMm-is : String → Edit
+TMm-is v = entry 8 4 v
+
+abbrev pub EMmr-is : String → Edit
+EMmr-is v = entry 8 19 v
+
+abbrev pub EMmm-is : String → Edit
+EMmm-is v = entry 8 20 v
+
+-- copy, x and y of the second stack
+abbrev pub copy2 : String → Edit
+copy2 v = entry 4 3 v
+
+abbrev pub x2 : String → Edit
+x2 v = entry 4 4 v
+
+abbrev pub y2 : String → Edit
+y2 v = entry 4 5 v
+
+-- the second item's line for supplier 1: like the first item, with another supplier dock, with another plant dock
+abbrev pub sameSupplier : String
+sameSupplier = "item=1500,1000,1000,0,1000,1,2,1,0,0,9,1,1,1,1,1"
+
+abbrev pub otherDock : String
+otherDock = "item=1500,1000,1000,0,1000,1,2,1,0,0,9,1,1,1,2,1"
+
+abbrev pub otherPlantDock : String
+otherPlantDock = "item=1500,1000,1000,0,1000,1,2,1,0,0,9,1,2,1,1,1"
+
+-- ---- weights
+abbrev pub weightCases : List Case
+weightCases =
+    edits [] [] oneTruck
+    -- the load limit is met exactly, and missed by a kilogram
+    ∷ edits (TMm-is "2000" ∷ []) [] oneTruck
+    ∷ edits (TMm-is "1999" ∷ []) [] (refusedWith 26 1 0 0)
+    -- the first of two departures fails and the last does not: "testing axles at the last departure only"
+    ∷ edits (EMmm-is "749" ∷ []) [] (refusedWith 27 1 0 1)
+    -- a stack behind the rear axle counts negative: with its lever positive the rear axle would bear 500
+    ∷ edits (EMmr-is "1999" ∷ []) [] (refusedWith 28 1 0 2)
+    -- 750.75 is above 750: "dividing before comparing"
+    ∷ edits (entry 6 5 "1001" ∷ []) [] (refusedWith 27 1 0 1)
+    ∷ edits (entry 6 5 "1001" ∷ EMmm-is "751" ∷ EMmr-is "2001" ∷ []) [] oneTruck
+    -- an extra truck with the second stack: TC × 1000 and TC × 1500; its first departure has no stack on and does not count
+    ∷ edits [] (copy2 "1" ∷ x2 "0" ∷ []) (acceptance 250000 2)
+    ∷ []
+
+pub weight-cases : map (answered twoStops twoStacks) weightCases ≡ map expected weightCases
+unfolding answer commaParts commaJoined
+weight-cases = refl
+
+-- ---- floor and contact
+abbrev pub floorCases : List Case
+floorCases =
+    -- side by side at one x, and one millimetre too near: "dropping P2 when two x are equal"
+    edits (EMmm-is "1500" ∷ []) (x2 "0" ∷ y2 "1000" ∷ []) oneTruck
+    ∷ edits (EMmm-is "1500" ∷ []) (x2 "0" ∷ y2 "999" ∷ []) (refusedWith 23 1 2 0)
+    -- the pair with the lowest numbers, whatever stands first in the file
+    ∷ edits [] (line 2 "stack=7,1,0,0,0,1" ∷ line 4 "stack=3,1,0,1499,0,1" ∷ []) (refusedWith 23 3 7 0)
+    -- a corner is enough, and a millimetre off it is not
+    ∷ edits [] (y2 "1000" ∷ []) oneTruck
+    ∷ edits [] (y2 "1001" ∷ []) (refusedWith 24 2 0 0)
+    -- a wide stack, 2000 across, before a narrow one
+    ∷ edits (line 6 "item=2000,1500,1000,0,1000,2,2,1,0,0,9,1,1,1,1,1" ∷ []) (line 2 "stack=1,1,0,0,0,2" ∷ y2 "500" ∷ []) oneTruck
+    ∷ []
+
+pub floor-cases : map (answered twoStops twoStacks) floorCases ≡ map expected floorCases
+unfolding answer commaParts commaJoined
+floor-cases = refl
+
+-- ---- loading order P4: each case as the stacks stand, and with the order turned round
+abbrev pub orderCases : List Case
+orderCases =
+    -- (1) suppliers
+    edits (line 10 "suppliers=2,1" ∷ []) [] (refusedWith 25 2 1 0)
+    -- (2) supplier docks of one supplier
+    ∷ edits (line 7 otherDock ∷ line 11 "docks=1,2" ∷ []) [] oneTruck
+    ∷ edits (line 7 otherDock ∷ line 11 "docks=2,1" ∷ []) [] (refusedWith 25 2 1 0)
+    -- (3) plant docks
+    ∷ edits (line 7 otherPlantDock ∷ line 13 "plantdocks=1,2" ∷ []) [] oneTruck
+    ∷ edits (line 7 otherPlantDock ∷ line 13 "plantdocks=2,1" ∷ []) [] (refusedWith 25 2 1 0)
+    -- (3) with the reverse: equal docks tie no stack to another, whichever stands in front
+    ∷ edits (line 7 sameSupplier ∷ []) [] oneTruck
+    ∷ edits (line 7 sameSupplier ∷ []) (entry 2 4 "1500" ∷ x2 "0" ∷ []) oneTruck
+    ∷ []
+
+pub order-cases : map (answered twoStops twoStacks) orderCases ≡ map expected orderCases
+unfolding answer commaParts commaJoined
+order-cases = refl
+
+-- ---- heights, on the printed load: the bottom item's nesting height does not count, the top item's does
+abbrev pub heightCases : List Case
+heightCases =
+    edits (TH-entry "1900" ∷ []) [] (acceptance 248000 1)
+    ∷ edits (TH-entry "2000" ∷ []) (line 3 "load=2,1" ∷ []) (acceptance 248000 1)
+    ∷ edits (TH-entry "1999" ∷ []) (line 3 "load=2,1" ∷ []) (refusedWith 22 1 3 0)
+    ∷ []
+
+pub height-cases : map (answered printedLoad printedStacks) heightCases ≡ map expected heightCases
+unfolding answer commaParts commaJoined
+height-cases = refl
+
+-- ---- reading, on the printed load
+abbrev pub readingCases : List Case
+readingCases =
+    -- a number's form: needless zero, eleven digits; then its range, also beyond 32 bits
+    instanceEdit (line 4 "items=02") (refusedWith 4 4 0 0)
+    ∷ instanceEdit (line 4 "items=20000000000") (refusedWith 4 4 0 0)
+    ∷ instanceEdit (line 4 "items=0") (refusedWith 5 4 0 0)
+    ∷ instanceEdit (line 4 "items=4294967298") (refusedWith 5 4 0 0)
+    -- a key in capitals
+    ∷ instanceEdit (line 3 "Extra=200") (refusedWith 4 3 0 0)
+    -- form before range in one line: an entry out of range and one too few
+    ∷ instanceEdit (line 6 "item=0,800,1000,0,500,1,3,1,0,2,5,1,1,1,1") (refusedWith 4 6 0 0)
+    -- the first bad line: a range before a form
+    ∷ edits (line 1 "transport=1001" ∷ line 2 "inventory" ∷ []) [] (refusedWith 5 1 0 0)
+    -- a repeat where distinct is required
+    ∷ instanceEdit (line 12 "plantdocks=1,1") (refusedWith 5 12 0 0)
+    -- a missing line is one after those present; the first line too many
+    ∷ planEdit (line 1 "stacks=2") (refusedWith 7 4 0 0)
+    ∷ planEdit (line 1 "stacks=0") (refusedWith 7 2 0 0)
+    ∷ planEdit (line 3 "load=1,3") (refusedWith 8 3 0 0)
+    -- a code clash
+    ∷ instanceEdit (entry 7 2 "801") (refusedWith 6 2 1 0)
+    ∷ []
+
+pub reading-cases : map (answered printedLoad printedStacks) readingCases ≡ map expected readingCases
+unfolding answer commaParts commaJoined
+reading-cases = refl
+
+-- ---- short table, overlong files, an empty plan
+pub short-table : answer small 8975 (fileOf printedLoad) (fileOf printedStacks) ≡ refusedWith 1 0 0 0
+unfolding answer
+short-table = refl
+
+pub overlong-instance : answer small 8976 (replicate 65536 0) (replicate 65536 0) ≡ refusedWith 2 0 0 0
+unfolding answer
+overlong-instance = refl
+
+pub overlong-plan : answer small 8976 (replicate 65535 0) (replicate 65536 0) ≡ refusedWith 3 0 0 0
+unfolding answer
+overlong-plan = refl
+
+pub no-stacks : answer small 8976 (fileOf printedLoad) (fileOf (lines ("stacks=0" ∷ []))) ≡ refusedWith 9 1 0 0
+unfolding answer
+no-stacks = refl
+
+-- ---- the line handed back: line 3 of the instance and of the plan; another number; a line that is not there; an unended one
+abbrev pub handed : ℕ → ℕ → Part
+handed number n = handedBack (fileOf printedLoad) (fileOf printedStacks ++ bytes "left") number n
+
+pub bad-lines :
+    handed 5 3 ∷ handed 8 3 ∷ handed 7 4 ∷ handed 9 3 ∷ handed 4 13 ∷ handed 7 0 ∷ []
+    ≡ record { file = inInstance; span = span 24 33 }
+    ∷ record { file = inPlan; span = span 27 35 }
+    ∷ record { file = inPlan; span = span 36 40 }
+    ∷ record { file = inInstance; span = span 291 291 }
+    ∷ record { file = inInstance; span = span 291 291 }
+    ∷ record { file = inInstance; span = span 291 291 }
+    ∷ []
+unfolding handedBack
+bad-lines = refl

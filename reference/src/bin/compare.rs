@@ -1,0 +1,307 @@
+//! Compares the definitions of `crates/meaning` with the reference, by computation in the proof kernel: for each case a
+//! theorem that the definition computes to the reference's result, proved by reflexivity in a crate under `target/`.
+//!
+//! Compared are the answer of every case, the part that is handed back for every unreadable file, and the whole table
+//! afterwards for the first cases.
+
+use reference::{bad_line, check, Answer};
+use std::collections::{BTreeMap, BTreeSet};
+use std::fmt::Write;
+use std::path::{Path, PathBuf};
+use std::process::{Command, ExitCode};
+
+const USAGE: &str = "usage: compare DIR [--tables COUNT] [--words COUNT]
+  DIR            cases as `cases` writes them
+  --tables COUNT compare the whole table too, for the first COUNT cases (default 20)
+  --words COUNT  words of the table (default 8976)
+Run it in the repository's folder.";
+
+/// Theorems to a module: the kernel takes a module at a time.
+const PER_MODULE: usize = 50;
+
+/// What the table holds before the check, so that an untouched word shows.
+const BEFORE: u32 = 7;
+
+const HEAD: &str = "use mathlib.Core.Path.{_≡_, refl}
+use mathlib.Core.List.{List, [], _∷_, _++_}
+use Prim.Native.Nat.{ℕ}
+use lib.ListN.{replicate}
+use Rattle.meaning.specs.Limits.{small}
+use Rattle.meaning.specs.Text.{bytes}
+use Rattle.meaning.specs.Check.{answer, tableAfter}
+use Rattle.meaning.specs.BadLine.{handedBack, partBytes}
+";
+
+struct Order {
+    folder: PathBuf,
+    tables: usize,
+    words: usize,
+}
+
+struct Case {
+    name: String,
+    instance: Vec<u8>,
+    plan: Vec<u8>,
+    answer: Answer,
+    table: Vec<u32>,
+}
+
+fn main() -> ExitCode {
+    let arguments: Vec<String> = std::env::args().skip(1).collect();
+    let Some(order) = parse(&arguments) else {
+        eprintln!("{USAGE}");
+        return ExitCode::FAILURE;
+    };
+    match compare(&order) {
+        Ok(true) => ExitCode::SUCCESS,
+        Ok(false) => ExitCode::FAILURE,
+        Err(error) => {
+            eprintln!("compare: {error}");
+            ExitCode::FAILURE
+        }
+    }
+}
+
+fn parse(arguments: &[String]) -> Option<Order> {
+    let mut order = Order {
+        folder: PathBuf::from(arguments.first()?),
+        tables: 20,
+        words: reference::table::NAMED_WORDS,
+    };
+    for option in arguments[1..].chunks(2) {
+        let count = option.get(1)?.parse().ok()?;
+        match option[0].as_str() {
+            "--tables" => order.tables = count,
+            "--words" => order.words = count,
+            _ => return None,
+        }
+    }
+    Some(order)
+}
+
+/// True where every case agrees.
+fn compare(order: &Order) -> Result<bool, String> {
+    let cases = read_cases(order)?;
+    let scratch = PathBuf::from("target/compare");
+    copy_definitions(&scratch)?;
+    let mut differing = BTreeSet::new();
+    // A case agrees only where a run with its theorems was proved, so those that fail are left out and the rest runs again.
+    loop {
+        let left: Vec<usize> = (0..cases.len()).filter(|index| !differing.contains(index)).collect();
+        write_theorems(&scratch, &cases, &left, order)?;
+        let (proved, said) = prove(&scratch)?;
+        if proved {
+            break;
+        }
+        let failed = failed_cases(&said);
+        if failed.is_empty() {
+            return Err(format!("the kernel could not tell:\n{said}"));
+        }
+        for &index in &failed {
+            println!(
+                "differs: {} (the reference says {:?})",
+                cases[index].name, cases[index].answer
+            );
+        }
+        differing.extend(failed);
+    }
+    print_tally(&cases, &differing);
+    Ok(differing.is_empty())
+}
+
+fn read_cases(order: &Order) -> Result<Vec<Case>, String> {
+    let list = std::fs::read_to_string(order.folder.join("list.txt")).map_err(|error| format!("list.txt: {error}"))?;
+    let mut cases = Vec::new();
+    for name in list.lines().filter_map(|line| line.split_whitespace().next()) {
+        let file = |kind: &str| {
+            std::fs::read(order.folder.join(format!("{name}.{kind}"))).map_err(|error| format!("{name}: {error}"))
+        };
+        let (instance, plan) = (file("instance")?, file("plan")?);
+        let mut table = vec![BEFORE; order.words];
+        let answer = check(&instance, &plan, &mut table);
+        cases.push(Case {
+            name: name.to_string(),
+            instance,
+            plan,
+            answer,
+            table,
+        });
+    }
+    Ok(cases)
+}
+
+/// The definitions alone, without their proofs: a change of a definition can be tried before the proofs follow.
+fn copy_definitions(scratch: &Path) -> Result<(), String> {
+    let told = |error: std::io::Error| error.to_string();
+    let _ = std::fs::remove_dir_all(scratch.join("crates"));
+    for part in ["src", "specs"] {
+        let from = Path::new("crates/meaning").join(part);
+        let to = scratch.join("crates/meaning").join(part);
+        std::fs::create_dir_all(&to).map_err(told)?;
+        let folder = std::fs::read_dir(&from).map_err(|error| format!("{}: {error}", from.display()))?;
+        for entry in folder {
+            let entry = entry.map_err(told)?;
+            std::fs::copy(entry.path(), to.join(entry.file_name())).map_err(told)?;
+        }
+    }
+    std::fs::write(scratch.join("crates.txt"), "meaning:\ncases: meaning\n").map_err(told)
+}
+
+fn write_theorems(scratch: &Path, cases: &[Case], left: &[usize], order: &Order) -> Result<(), String> {
+    let told = |error: std::io::Error| error.to_string();
+    let home = scratch.join("crates/cases");
+    let _ = std::fs::remove_dir_all(&home);
+    std::fs::create_dir_all(home.join("src")).map_err(told)?;
+    std::fs::create_dir_all(home.join("specs")).map_err(told)?;
+    std::fs::write(home.join("src/lib.rt"), "pub struct Nothing {\n    pub none: u32,\n}\n").map_err(told)?;
+    let mut modules = String::new();
+    for (number, part) in left.chunks(PER_MODULE).enumerate() {
+        writeln!(modules, "pub mod Cases{number}").expect("a string takes every line");
+        let theorems: String = part
+            .iter()
+            .map(|&index| theorems_of(index, &cases[index], order))
+            .collect();
+        std::fs::write(
+            home.join(format!("specs/Cases{number}.antt")),
+            format!("{HEAD}{theorems}"),
+        )
+        .map_err(told)?;
+    }
+    std::fs::write(home.join("specs/Lib.antt"), modules).map_err(told)
+}
+
+fn theorems_of(index: usize, case: &Case, order: &Order) -> String {
+    let (instance, plan) = (literal(&case.instance), literal(&case.plan));
+    let Answer {
+        number,
+        first,
+        second,
+        third,
+        cost,
+        trucks,
+    } = case.answer;
+    let record = format!(
+        "record {{ number = {number}; first = {first}; second = {second}; third = {third}; cost = {cost}; trucks = {trucks} }}"
+    );
+    let mut text = format!(
+        "
+abbrev instance-{index} : List ℕ
+instance-{index} = {instance}
+
+abbrev plan-{index} : List ℕ
+plan-{index} = {plan}
+
+pub answer-{index} : answer small {} instance-{index} plan-{index} ≡ {record}
+unfolding answer
+answer-{index} = refl
+",
+        order.words
+    );
+    if matches!(number, 4 | 5 | 7 | 8) {
+        let part = literal(bad_line(&case.instance, &case.plan, number, first));
+        text += &format!(
+            "
+pub line-{index} : partBytes instance-{index} plan-{index} (handedBack instance-{index} plan-{index} {number} {first}) ≡ {part}
+unfolding handedBack
+line-{index} = refl
+"
+        );
+    }
+    if index < order.tables {
+        let after = runs(&case.table);
+        text += &format!(
+            "
+pub table-{index} : tableAfter small (replicate {} {BEFORE}) instance-{index} plan-{index} ≡ {after}
+unfolding tableAfter
+table-{index} = refl
+",
+            order.words
+        );
+    }
+    text
+}
+
+/// Bytes as a term: strings where they are plain ASCII, numbers elsewhere.
+fn literal(bytes: &[u8]) -> String {
+    let plain = |byte: u8| byte == b'\n' || (byte.is_ascii_graphic() || byte == b' ') && byte != b'"' && byte != b'\\';
+    let mut parts = Vec::new();
+    let mut at = 0;
+    while at < bytes.len() {
+        let kind = plain(bytes[at]);
+        let length = bytes[at..].iter().take_while(|&&byte| plain(byte) == kind).count();
+        let part = &bytes[at..at + length];
+        parts.push(if kind {
+            format!("bytes \"{}\"", String::from_utf8_lossy(part).replace('\n', "\\n"))
+        } else {
+            format!(
+                "({} ∷ [])",
+                part.iter().map(u8::to_string).collect::<Vec<_>>().join(" ∷ ")
+            )
+        });
+        at += length;
+    }
+    joined(parts)
+}
+
+/// Words as a term: runs of one value are told by their length.
+fn runs(words: &[u32]) -> String {
+    let mut parts = Vec::new();
+    let mut at = 0;
+    while at < words.len() {
+        let length = words[at..].iter().take_while(|&&word| word == words[at]).count();
+        parts.push(format!("replicate {length} {}", words[at]));
+        at += length;
+    }
+    joined(parts)
+}
+
+fn joined(parts: Vec<String>) -> String {
+    let last = parts.last().cloned().unwrap_or_else(|| "[]".to_string());
+    let front = &parts[..parts.len().saturating_sub(1)];
+    front
+        .iter()
+        .rev()
+        .fold(last, |rest, part| format!("{part} ++ ({rest})"))
+}
+
+fn prove(scratch: &Path) -> Result<(bool, String), String> {
+    let run = Command::new("rt")
+        .arg("check")
+        .current_dir(scratch)
+        .env("RT_CUT", "0")
+        .output();
+    let run = run.map_err(|error| format!("rt: {error}"))?;
+    let said = String::from_utf8_lossy(&run.stdout).into_owned() + &String::from_utf8_lossy(&run.stderr);
+    Ok((run.status.success(), said))
+}
+
+/// The cases whose theorems the kernel refused.
+fn failed_cases(said: &str) -> BTreeSet<usize> {
+    let mut failed = BTreeSet::new();
+    for kind in ["answer", "line", "table"] {
+        for (at, found) in said.match_indices(&format!("error: `{kind}-")) {
+            let digits = &said[at + found.len()..];
+            let end = digits.find('`').unwrap_or(0);
+            failed.extend(digits[..end].parse::<usize>());
+        }
+    }
+    failed
+}
+
+fn print_tally(cases: &[Case], differing: &BTreeSet<usize>) {
+    let mut agreed: BTreeMap<u32, usize> = BTreeMap::new();
+    for (index, case) in cases.iter().enumerate() {
+        if !differing.contains(&index) {
+            *agreed.entry(case.answer.number).or_default() += 1;
+        }
+    }
+    println!("verdict  agree");
+    for (number, count) in &agreed {
+        println!("{number:7} {count:6}");
+    }
+    println!(
+        "{} cases agree, {} differ",
+        cases.len() - differing.len(),
+        differing.len()
+    );
+}
