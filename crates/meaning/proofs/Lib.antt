@@ -1,8 +1,11 @@
 pub mod Tests
 pub mod Lists
 pub mod Orders
+pub mod Permute
 pub mod Ring
 pub mod SignedSums
+pub mod Lowest
+pub mod Accepted
 pub mod Outcomes
 pub mod ReadFiles
 pub mod Digits
@@ -10,7 +13,6 @@ pub mod Printed
 pub mod Ranges
 pub mod ReadBack
 pub mod Decode
-pub mod Accepted
 pub mod Sound
 pub mod RuleKinds
 pub mod ItemRules
@@ -21,3 +23,5 @@ pub mod Chains
 pub mod LoadingOrder
 pub mod Levers
 pub mod Picture
+pub mod VerdictOrder
+pub mod AnyOrder
