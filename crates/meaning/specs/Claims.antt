@@ -1,7 +1,6 @@
 -- What is proved of the definitions, as statements over the limits. The proofs are in proofs/, each under the name given here.
 use mathlib.Core.Path.{_≡_}
 use mathlib.Core.Logic.{_⊎_, _↔_}
-use mathlib.Core.Bool.{false}
 use mathlib.Core.Option.{Option, none, some}
 use mathlib.Core.List.{List, [], _∷_, _++_, List·Permᴰ}
 use Prim.Native.Nat.{ℕ, _≤_, _<_}
@@ -15,7 +14,7 @@ use Rattle.meaning.specs.Table.{words, instanceIn, stacksIn}
 use Rattle.meaning.specs.Places.{lowest}
 use Rattle.meaning.specs.Rules.{Rule, rules}
 use Rattle.meaning.specs.Verdict.{verdictOn, refusal, acceptance, cost}
-use Rattle.meaning.specs.Check.{readable, readFiles, answer}
+use Rattle.meaning.specs.Check.{readable, readFiles, answer, codeClashes}
 use Rattle.meaning.specs.Feasible.{Feasible}
 use Rattle.meaning.specs.Reorder.{Reordered}
 use Rattle.meaning.specs.Print.{printedInstance, printedPlan}
@@ -75,6 +74,27 @@ pub record IsPrinted (instance plan : List ℕ) (i : Instance) (p : List Stack) 
 
 abbrev pub ReadPrinted : Limits → Type 0
 ReadPrinted m = (instance plan : List ℕ) (r : Readable m instance plan) → IsPrinted instance plan (r .says) (r .stacks)
+
+-- ---- what reading means, without a reader (proofs/ReadExactly: read-exactly)
+-- two files that are a model written out, with every entry in range, no code clash and few enough bytes
+pub record Legible (m : Limits) (instance plan : List ℕ) (i : Instance) (p : List Stack) : Type 0 where
+  pub printed : IsPrinted instance plan i p
+  pub inRange : InRange m i p
+  pub noClash : lowest (codeClashes i) ≡ none
+  pub instanceBytes : length instance ≤ m .bytes
+  pub planBytes : length plan ≤ m .bytes
+
+-- the counts of the limits are numbers that a file can have: "1 to 10 decimal digits"
+pub record TenDigitLimits (m : Limits) : Type 0 where
+  pub items : m .items ≤ 9999999999
+  pub trucks : m .trucks ≤ 9999999999
+  pub stacks : m .stacks ≤ 9999999999
+
+-- two files are read as a model exactly when they are that model, legibly
+abbrev pub ReadExactly : Limits → Type 0
+ReadExactly m =
+    TenDigitLimits m → (instance plan : List ℕ) (i : Instance) (p : List Stack)
+    → (readFiles m instance plan ≡ readable i p) ↔ Legible m instance plan i p
 
 -- ---- the table (proofs/Decode: decodes)
 -- the words of a model with room in the table hold that model, and are as many as are named
