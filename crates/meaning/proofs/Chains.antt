@@ -1,7 +1,7 @@
 -- Rule 24 says that every stack begins a chain of contacts to the front wall.
 use mathlib.Core.Path.{_≡_, ap}
 use mathlib.Core.Logic.{_⊎_, inl, inr, ⊎-elim, _↔_}
-use mathlib.Core.Bool.{true, _&&_, _||_}
+use mathlib.Core.Bool.{true, _&&_}
 use mathlib.Core.List.{List, [], _∷_}
 use Prim.Native.Nat.{ℕ, zero, suc, _≤_, max}
 use native.Mathlib.Nat.{le-refl}

@@ -1,5 +1,5 @@
 -- The picture's ends of a stack are those of the rules, and the floor by squares says what rules 22 (length, width) and 23 say.
-use mathlib.Core.Path.{_≡_, refl, ap}
+use mathlib.Core.Path.{_≡_, ap}
 use mathlib.Core.Logic.{_⊎_, inl, inr, ⊎-elim, _↔_}
 use mathlib.Core.Bool.{Bool, true, false, cond, _||_}
 use mathlib.Core.List.{List, []}

@@ -1,12 +1,12 @@
 -- Rule 22 says of a stack that it ends on the floor and that its height, worked out in signed numbers, is at most the limit.
-use mathlib.Core.Path.{_≡_, refl, ap, ap₂, _∙_}
+use mathlib.Core.Path.{_≡_, refl, ap₂, _∙_}
 use mathlib.Core.Logic.{inl, inr, _↔_}
-use mathlib.Core.Bool.{Bool, true, not, _&&_}
+use mathlib.Core.Bool.{true, _&&_}
 use mathlib.Core.List.{List, [], _∷_}
-use Prim.Native.Nat.{ℕ, _+_, _-_, _≤_}
+use Prim.Native.Nat.{ℕ, _-_, _≤_}
 use native.Mathlib.Omega.{arith}
 use borrow.Author.Tests.{leb-true, le-leb}
-use lib.IntN.{ℤ, pos, _-ℤ_}
+use lib.IntN.{pos, _-ℤ_}
 use lib.Signed.{_≤ℤ_}
 use lib.ListN.{drop}
 use Rattle.meaning.specs.Lists.{In, sum}
@@ -16,7 +16,7 @@ use Rattle.meaning.specs.Rules.{stackPlaces, lengthFits, widthFits, heig
 use Rattle.meaning.specs.Feasible.{heightOf}
 use Rattle.meaning.proofs.Tests.{and-reads}
 use Rattle.meaning.proofs.RuleKinds.{stacks-kept}
-use Rattle.meaning.proofs.Ring.{less, of-pos, same-less, ring}
+use Rattle.meaning.proofs.Ring.{same-less, ring}
 use Rattle.meaning.proofs.SignedSums.{sum-signed, le-signed}
 use Rattle.meaning.proofs.Sound.{SoundStack, Sound}
 

@@ -1,9 +1,9 @@
 -- Rules 9 to 14, the item rules: they list no place exactly when the picture's words about items hold.
 use mathlib.Core.Path.{_≡_, refl, sym, ap, subst, _∙_}
-use mathlib.Core.Logic.{_⊎_, inl, inr, ⊎-elim, _↔_}
+use mathlib.Core.Logic.{inl, ⊎-elim, _↔_}
 use mathlib.Core.Bool.{Bool, true, false, cond, not}
 use mathlib.Core.List.{List, [], _∷_, _++_, flatMap}
-use Prim.Native.Nat.{ℕ, zero, suc, _+_, _-_, _≤_}
+use Prim.Native.Nat.{ℕ, suc, _+_, _-_, _≤_}
 use native.Mathlib.Omega.{arith}
 use borrow.Author.Tests.{eqb-true, eqb-false, eq-eqb}
 use lib.Dec.{leb, eqb}
@@ -17,7 +17,7 @@ use Rattle.meaning.specs.Rules.{itemPlaces, timesLoaded, notOnce, plantF
 use Rattle.meaning.specs.Feasible.{Stands, Once, ItemFits}
 use Rattle.meaning.proofs.Tests.{and-reads, le-reads, between-reads, iff-trans, iff-both}
 use Rattle.meaning.proofs.Lists.{in-filter, in-upFrom, flatMap-none, unless-none, listed-reads}
-use Rattle.meaning.proofs.Orders.{stands-first, stands-later, stands-in, order-in, order-stands, stands-order}
+use Rattle.meaning.proofs.Orders.{stands-first, stands-later, stands-cases, stands-in, order-in, order-stands, stands-order, row-at}
 use Rattle.meaning.proofs.RuleKinds.{items-kept}
 use Rattle.meaning.proofs.Sound.{Sound}
 
@@ -59,16 +59,6 @@ times-none n l = (
     none : (r : List ℕ) → ((a : ℕ) → In a r → ⊥) → length r ≡ 0
     none [] f = refl
     none (a ∷ r) f = absurd (f a (inl refl))
-
-one-back : (k : ℕ) → suc k - 1 ≡ k
-one-back k = omega arith
-
--- a place in a list is its first or a place of the rest, moved by one
-stands-cases : (m : ℕ) (l : List ℕ) (n k : ℕ) → Stands (m ∷ l) n k → ((k ≡ 1) × (m ≡ n)) ⊎ ((j : ℕ) × (k ≡ suc j) × Stands l n j)
-stands-cases m l n zero h = absurd (omega (arith, h .from))
-stands-cases m l n (suc zero) h = inl (refl, h .there)
-stands-cases m l n (suc (suc j)) h =
-    inr (suc j, refl, record { from = omega arith; upTo = omega (arith, h .upTo); there = rw (one-back j) (rw (one-back (suc j)) at (h .there)) })
 
 -- counted once is standing at one place
 counted-once : (n : ℕ) (l : List ℕ) → (times n l ≡ 1) ↔ Once n l
@@ -139,12 +129,6 @@ once-exactly i p = (
   (λ f. each-once i p .1 (λ n from upTo. times-loaded n p ∙ counted-once n _ .1 (f n from upTo))),
 )
 
--- ---- docks
--- the docks of a supplier with loading order k are those of the truck's list k
-docks-at : (t : Truck) (k : ℕ) → 1 ≤ k → getD ([] ∷ t .docks) k [] ≡ getD (t .docks) (k - 1) []
-docks-at t zero h = absurd (omega arith)
-docks-at t (suc k) h = ap (λ (j : ℕ). getD (t .docks) j []) (sym (one-back k))
-
 -- ---- the tests 10 to 14 for item n of stack s
 module _ (i : Instance) (s : Stack) (n : ℕ) where
   abbrev on : Truck
@@ -162,7 +146,7 @@ module _ (i : Instance) (s : Stack) (n : ℕ) where
       (iff-trans (le-reads 1 (plantDockOrder i s it)) (order-in (on .plantDocks) (IG it))))
     where
       same : docksOf on (IU it) ≡ getD (on .docks) (k - 1) []
-      same = ap (λ (j : ℕ). getD ([] ∷ on .docks) j []) e ∙ docks-at on k from
+      same = ap (λ (j : ℕ). getD ([] ∷ on .docks) j []) e ∙ row-at (on .docks) k from
 
   abbrev Passes : Type 0
   Passes = (plantFits i s it ≡ true) × (productFits i s it ≡ true) × (supplierFits i s it ≡ true) × (dayFits i s it ≡ true) × (docksListed i s it ≡ true)

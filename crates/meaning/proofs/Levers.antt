@@ -1,16 +1,14 @@
 -- Rules 26 to 28 say what the picture says of weights and levers, used truck by used truck and departure by departure.
 use mathlib.Core.Path.{_≡_, refl, sym, ap, ap₂, subst, _∙_}
-use mathlib.Core.Logic.{_⊎_, inl, inr, ⊎-elim, _↔_}
+use mathlib.Core.Logic.{inl, inr, ⊎-elim, _↔_}
 use mathlib.Core.Bool.{Bool, true, false, cond, _&&_}
 use mathlib.Core.List.{List, [], _∷_, map}
 use Prim.Native.Nat.{ℕ, _+_, _*_, _≤_}
 use native.Mathlib.Omega.{arith}
-use borrow.Author.Tests.{leb-true, le-leb, eqb-true, eq-eqb}
-use lib.Dec.{eqb}
 use lib.IntN.{ℤ, pos, _+ℤ_, _-ℤ_, _*ℤ_, zero-*ℤ, *ℤ-comm, +ℤ-idl}
-use lib.Signed.{leZ, _≤ℤ_}
+use lib.Signed.{_≤ℤ_}
 use lib.ListN.{length, take}
-use Rattle.meaning.specs.Lists.{In, filter, listed, between, orderIn, sum, sumℤ}
+use Rattle.meaning.specs.Lists.{In, filter, listed, between, sum, sumℤ}
 use Rattle.meaning.specs.Model.{Instance, Truck, Stack, truckNumbered, truckOf, truck, copy, x, IU, TMm, CM, CJfm, CJfc, CJfh, EM, EJhr, EJcr, EJeh, EMmr, EMmm}
 use Rattle.meaning.specs.Measures.{bottom, xe, sm, supplierOrder, UsedTruck, usedBy, sameUsed, usedTrucks, stacksOn, weightOn, departures, stacksAt, lever, H}
 use Rattle.meaning.specs.Rules.{truckPlaces, departurePlaces, counts, loadFits, middleFits, rearFits}
@@ -18,8 +16,8 @@ use Rattle.meaning.specs.Feasible.{weightOf, sumWhere, onTruckOf, onAt, 
 use Rattle.meaning.proofs.Tests.{decide, and-reads, le-reads, leZ-reads, iff-trans, iff-sym}
 use Rattle.meaning.proofs.Lists.{in-filter, in-map, in-dedup, in-upFrom}
 use Rattle.meaning.proofs.Orders.{order-take}
-use Rattle.meaning.proofs.RuleKinds.{one-truck, counts-reads, trucks-kept, departures-kept}
-use Rattle.meaning.proofs.Ring.{less, apart-of, same-less, ring}
+use Rattle.meaning.proofs.RuleKinds.{used-reads, one-truck, counts-reads, trucks-kept, departures-kept}
+use Rattle.meaning.proofs.Ring.{apart-of, same-less, ring}
 use Rattle.meaning.proofs.SignedSums.{sum-signed, le-signed, weight-signed}
 use Rattle.meaning.proofs.Sound.{Sound}
 use Rattle.meaning.proofs.Extents.{sound-ends}
@@ -74,14 +72,6 @@ module _ {A : Type 0} where
       paired a b c d = rw (apart-of a, apart-of b, apart-of c, apart-of d) (simp ring (same-less _ _ _ _ (omega arith)))
 
 -- ---- used trucks, and the stacks that are on
-used-reads : (u v : UsedTruck) → (sameUsed u v ≡ true) ↔ (u ≡ v)
-used-reads u v = (
-  (λ e.
-      let k = and-reads (eqb (u .truck) (v .truck)) (eqb (u .copy) (v .copy)) .0 e in
-      λ j. record { truck = eqb-true (u .truck) (v .truck) (k .0) j; copy = eqb-true (u .copy) (v .copy) (k .1) j }),
-  (λ e. and-reads (eqb (u .truck) (v .truck)) (eqb (u .copy) (v .copy)) .1 (eq-eqb _ _ (ap (λ (w : UsedTruck). w .truck) e), eq-eqb _ _ (ap (λ (w : UsedTruck). w .copy) e))),
-)
-
 -- a used truck is a truck and copy with a stack
 pub in-used : (p : List Stack) (u : UsedTruck) → In u (usedTrucks p) ↔ ((s : Stack) × In s p × (u ≡ usedBy s))
 unfolding usedTrucks

@@ -1,7 +1,7 @@
 -- Members of the lists that the definitions make, and lists that have none.
 use mathlib.Core.Path.{_≡_, refl, sym, ap, subst, _∙_}
 use mathlib.Core.Logic.{_⊎_, inl, inr, ⊎-elim, _↔_}
-use mathlib.Core.Bool.{Bool, true, false, cond, not, _&&_, _||_}
+use mathlib.Core.Bool.{Bool, true, false, cond, not, _&&_}
 use mathlib.Core.List.{List, [], _∷_, _++_, map, flatMap}
 use Prim.Native.Nat.{ℕ, zero, suc, _+_, _≤_, _<_}
 use native.Mathlib.Nat.{eq-or-lt-of-le}
@@ -9,8 +9,8 @@ use native.Mathlib.Omega.{arith}
 use borrow.Author.Tests.{eqb-true, eq-eqb}
 use lib.Dec.{eqb}
 use lib.ListN.{length, getD}
-use Rattle.meaning.specs.Lists.{any, all, filter, dedup, onlyIf, upFrom, In, Every, listed}
-use Rattle.meaning.proofs.Tests.{true≢false, and-reads, or-reads}
+use Rattle.meaning.specs.Lists.{any, all, filter, dedup, onlyIf, upFrom, In, Every, listed, distinct}
+use Rattle.meaning.proofs.Tests.{true≢false, and-reads, or-reads, not-reads, iff-trans, iff-both, iff-not}
 
 module _ {A : Type 0} where
   pub no-cons : (a : A) (l : List A) → (a ∷ l) ≡ [] → ⊥
@@ -111,6 +111,11 @@ module _ {A : Type 0} where
   among-none true false a = ((λ e k. absurd (no-cons a [] e)), (λ f. absurd (true≢false (sym (f refl)))))
   among-none false c a = ((λ e k. absurd (true≢false (sym k))), (λ f. refl))
 
+  -- no element stands twice
+  abbrev pub NoRepeat : List A → Type 0
+  NoRepeat [] = Unit {0}
+  NoRepeat (a ∷ l) = (In a l → ⊥) × NoRepeat l
+
   -- ---- each element once, for a test that says when two are equal
   module _ (same : A → A → Bool) (reads : (a b : A) → (same a b ≡ true) ↔ (a ≡ b)) where
     pub any-same : (a : A) (l : List A) → (any (same a) l ≡ true) ↔ In a l
@@ -130,6 +135,15 @@ module _ {A : Type 0} where
           ⊎-elim (λ q. subst (λ (z : A). In z (dedup same l)) (sym q) (rec b .1 (any-same b l .0 e))) (λ m. rec a .1 m),
         )
         go rec false e = (⊎-elim (λ q. inl q) (λ m. inr (rec a .0 m)), ⊎-elim (λ q. inl q) (λ m. inr (rec a .1 m)))
+
+    pub dedup-noRepeat : (l : List A) → NoRepeat (dedup same l)
+    unfolding dedup
+    dedup-noRepeat [] = tt
+    dedup-noRepeat (a ∷ l) = go (dedup-noRepeat l) (any (same a) l) refl
+      where
+        go : NoRepeat (dedup same l) → (t : Bool) → any (same a) l ≡ t → NoRepeat (cond t (dedup same l) (a ∷ dedup same l))
+        go rec true e = rec
+        go rec false e = ((λ m. true≢false (sym (any-same a l .1 (in-dedup l a .0 m)) ∙ e)), rec)
 
 module _ {A B : Type 0} where
   pub in-flatMap : (g : A → List B) (l : List A) (b : B) → In b (flatMap g l) ↔ ((a : A) × In a l × In b (g a))
@@ -160,6 +174,12 @@ module _ {A B : Type 0} where
 -- ---- lists of numbers
 pub listed-reads : (n : ℕ) (l : List ℕ) → (listed n l ≡ true) ↔ In n l
 listed-reads n l = any-same eqb (λ a b. (eqb-true a b, eq-eqb a b)) n l
+
+pub distinct-reads : (l : List ℕ) → (distinct l ≡ true) ↔ NoRepeat l
+unfolding distinct
+distinct-reads [] = ((λ e. tt), (λ u. refl))
+distinct-reads (n ∷ l) =
+    iff-trans (and-reads (not (listed n l)) (distinct l)) (iff-both (iff-trans (not-reads (listed n l)) (iff-not (listed-reads n l))) (distinct-reads l))
 
 pub in-upFrom : (a n k : ℕ) → In k (upFrom a n) ↔ ((a ≤ k) × (k < a + n))
 unfolding upFrom

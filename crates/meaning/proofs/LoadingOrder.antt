@@ -9,24 +9,21 @@ use native.Mathlib.Omega.{arith}
 use borrow.Author.Tests.{leb-true, le-leb, eqb-true, eq-eqb}
 use lib.Dec.{leb, ltb, eqb}
 use lib.ListN.{getD}
-use Rattle.meaning.specs.Lists.{In, Every, all, distinct, orderIn}
+use Rattle.meaning.specs.Lists.{In, Every, distinct, orderIn}
 use Rattle.meaning.specs.Model.{Instance, Truck, Stack, item, truckNumbered, truckOf, number, x, IG, IU, IK}
 use Rattle.meaning.specs.Measures.{bottom, docksOf, supplierOrder, supplierDockOrder, plantDockOrder}
 use Rattle.meaning.specs.Rules.{pairPlaces, docksUpTo, precedes, inOrder}
 use Rattle.meaning.specs.Feasible.{OneTruck, Stands, Earlier, NotLater, ItemFits, MustPrecede, bySupplier, byDock, byPlantDock}
 use Rattle.meaning.proofs.Tests.{true≢false, and-reads, or-reads, not-reads, le-reads, lt-reads, iff-trans}
 use Rattle.meaning.proofs.Lists.{all-reads}
-use Rattle.meaning.proofs.Orders.{order-stands, stands-order, earlier-reads, notLater-reads}
+use Rattle.meaning.proofs.Orders.{order-stands, stands-order, earlier-reads, notLater-reads, row-at}
 use Rattle.meaning.proofs.RuleKinds.{pairs-kept}
 use Rattle.meaning.proofs.Sound.{SoundStack, Sound}
 
 -- ---- the docks of a supplier
 -- its row among the docks is the one at its place
-pub docks-at : (t : Truck) (supplier k : ℕ) → distinct (t .suppliers) ≡ true → Stands (t .suppliers) supplier k → docksOf t supplier ≡ getD (t .docks) (k - 1) []
-docks-at t supplier zero d h = absurd (omega (arith, h .from))
-docks-at t supplier (suc k) d h =
-    let back : suc k - 1 ≡ k = omega arith in
-    rw (stands-order (t .suppliers) supplier (suc k) d h, back)
+docks-at : (t : Truck) (supplier k : ℕ) → distinct (t .suppliers) ≡ true → Stands (t .suppliers) supplier k → docksOf t supplier ≡ getD (t .docks) (k - 1) []
+docks-at t supplier k d h = ap (λ (j : ℕ). getD ([] ∷ t .docks) j []) (stands-order (t .suppliers) supplier k d h) ∙ row-at (t .docks) k (h .from)
 
 row-distinct : (rows : List (List ℕ)) (k : ℕ) → Every (λ (d : List ℕ). distinct d ≡ true) rows → distinct (getD rows k []) ≡ true
 unfolding distinct

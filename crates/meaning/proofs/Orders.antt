@@ -1,32 +1,36 @@
 -- Loading orders: the number that `orderIn` computes is the place where an entry stands.
 use mathlib.Core.Path.{_≡_, refl, sym, ap, subst, _∙_}
 use mathlib.Core.Logic.{_⊎_, inl, inr, ⊎-elim, _↔_}
-use mathlib.Core.Bool.{Bool, true, false, cond, not}
+use mathlib.Core.Bool.{Bool, true, false, cond}
 use mathlib.Core.List.{List, [], _∷_}
 use Prim.Native.Nat.{ℕ, zero, suc, _+_, _-_, _≤_, _<_}
 use native.Mathlib.Decide.{decLe}
 use native.Mathlib.Omega.{arith}
 use borrow.Author.Tests.{eqb-true, eqb-false}
 use lib.Dec.{eqb}
-use lib.ListN.{length, getD, take}
-use Rattle.meaning.specs.Lists.{any, In, listed, distinct, orderFrom, orderIn, between}
+use lib.ListN.{getD, take}
+use Rattle.meaning.specs.Lists.{In, listed, distinct, orderFrom, orderIn, between}
 use Rattle.meaning.specs.Feasible.{Stands, Earlier, NotLater}
-use Rattle.meaning.proofs.Tests.{true≢false, and-reads, not-reads, between-reads, same-test}
-use Rattle.meaning.proofs.Lists.{at-in, listed-reads}
+use Rattle.meaning.proofs.Tests.{between-reads, same-test}
+use Rattle.meaning.proofs.Lists.{NoRepeat, at-in, listed-reads, distinct-reads}
 
 -- ---- places in a list with one more entry at its front
 pub stands-first : (n : ℕ) (l : List ℕ) → Stands (n ∷ l) n 1
 stands-first n l = record { from = omega arith; upTo = omega arith; there = refl }
 
-one-back : (k : ℕ) → suc k - 1 ≡ k
+pub one-back : (k : ℕ) → suc k - 1 ≡ k
 one-back k = omega arith
 
 pub stands-later : (m : ℕ) (l : List ℕ) (n k : ℕ) → Stands l n k → Stands (m ∷ l) n (suc k)
 stands-later m l n zero h = absurd (omega (arith, h .from))
 stands-later m l n (suc k) h = record { from = omega arith; upTo = omega (arith, h .upTo); there = rw (one-back (suc k)) (rw (one-back k) at (h .there)) }
 
-stands-back : (m : ℕ) (l : List ℕ) (n k : ℕ) → Stands (m ∷ l) n (suc (suc k)) → Stands l n (suc k)
-stands-back m l n k h = record { from = omega arith; upTo = omega (arith, h .upTo); there = rw (one-back k) (rw (one-back (suc k)) at (h .there)) }
+-- a place in such a list is the first, or a place of the rest moved by one
+pub stands-cases : (m : ℕ) (l : List ℕ) (n k : ℕ) → Stands (m ∷ l) n k → ((k ≡ 1) × (m ≡ n)) ⊎ ((j : ℕ) × (k ≡ suc j) × Stands l n j)
+stands-cases m l n zero h = absurd (omega (arith, h .from))
+stands-cases m l n (suc zero) h = inl (refl, h .there)
+stands-cases m l n (suc (suc j)) h =
+    inr (suc j, refl, record { from = omega arith; upTo = omega (arith, h .upTo); there = rw (one-back j) (rw (one-back (suc j)) at (h .there)) })
 
 pub stands-in : (l : List ℕ) (n k : ℕ) → Stands l n k → In n l
 stands-in l n k h = subst (λ (z : ℕ). In z l) (h .there) (at-in l 0 (k - 1) (omega (arith, h .from, h .upTo)))
@@ -65,28 +69,24 @@ pub order-stands : (l : List ℕ) (n : ℕ) → In n l → Stands l n (orderIn l
 order-stands l n m =
     ⊎-elim (λ k. absurd (k .0 m)) (λ k. let e : k .0 ≡ orderIn l n = omega (arith, k .2) in subst (Stands l n) e (k .1)) (order-cases 1 n l)
 
--- in a list without repeats the first entry stands nowhere else
-first-alone : (m : ℕ) (l : List ℕ) (n k : ℕ) → distinct (m ∷ l) ≡ true → m ≡ n → Stands l n (suc k) → ⊥
-unfolding distinct
-first-alone m l n k d e h =
-    not-reads (listed m l) .0 (and-reads (not (listed m l)) (distinct l) .0 d .0)
-    (listed-reads m l .1 (subst (λ (z : ℕ). In z l) (sym e) (stands-in l n (suc k) h)))
-
--- so does every entry
-pub stands-once : (l : List ℕ) (n j k : ℕ) → distinct l ≡ true → Stands l n j → Stands l n k → j ≡ k
-unfolding distinct
+-- in a list without repeats an entry stands at one place
+pub stands-once : (l : List ℕ) (n j k : ℕ) → NoRepeat l → Stands l n j → Stands l n k → j ≡ k
 stands-once [] n j k d h h′ = absurd (omega (arith, h .from, h .upTo))
-stands-once (m ∷ l) n zero k d h h′ = absurd (omega (arith, h .from))
-stands-once (m ∷ l) n (suc zero) zero d h h′ = absurd (omega (arith, h′ .from))
-stands-once (m ∷ l) n (suc zero) (suc zero) d h h′ = refl
-stands-once (m ∷ l) n (suc zero) (suc (suc k)) d h h′ = absurd (first-alone m l n k d (h .there) (stands-back m l n k h′))
-stands-once (m ∷ l) n (suc (suc j)) zero d h h′ = absurd (omega (arith, h′ .from))
-stands-once (m ∷ l) n (suc (suc j)) (suc zero) d h h′ = absurd (first-alone m l n j d (h′ .there) (stands-back m l n j h))
-stands-once (m ∷ l) n (suc (suc j)) (suc (suc k)) d h h′ =
-    ap suc (stands-once l n (suc j) (suc k) (and-reads (not (listed m l)) (distinct l) .0 d .1) (stands-back m l n j h) (stands-back m l n k h′))
+stands-once (m ∷ l) n j k d h h′ = go (λ i i′. stands-once l n i i′ (d .1)) (stands-cases m l n j h) (stands-cases m l n k h′)
+  where
+    -- the first entry stands nowhere else
+    alone : (i : ℕ) → m ≡ n → Stands l n i → ⊥
+    alone i e s = d .0 (subst (λ (z : ℕ). In z l) (sym e) (stands-in l n i s))
+
+    go : ((i i′ : ℕ) → Stands l n i → Stands l n i′ → i ≡ i′)
+        → ((j ≡ 1) × (m ≡ n)) ⊎ ((i : ℕ) × (j ≡ suc i) × Stands l n i) → ((k ≡ 1) × (m ≡ n)) ⊎ ((i : ℕ) × (k ≡ suc i) × Stands l n i) → j ≡ k
+    go rec (inl a) (inl b) = a .0 ∙ sym (b .0)
+    go rec (inl a) (inr b) = absurd (alone (b .0) (a .1) (b .2))
+    go rec (inr a) (inl b) = absurd (alone (a .0) (b .1) (a .2))
+    go rec (inr a) (inr b) = a .1 ∙ ap suc (rec (a .0) (b .0) (a .2) (b .2)) ∙ sym (b .1)
 
 pub stands-order : (l : List ℕ) (n k : ℕ) → distinct l ≡ true → Stands l n k → orderIn l n ≡ k
-stands-order l n k d h = stands-once l n (orderIn l n) k d (order-stands l n (stands-in l n k h)) h
+stands-order l n k d h = stands-once l n (orderIn l n) k (distinct-reads l .0 d) (order-stands l n (stands-in l n k h)) h
 
 -- in a list without repeats the places of two entries compare as their loading orders do
 module _ (l : List ℕ) (d : distinct l ≡ true) (a b : ℕ) where
@@ -102,13 +102,16 @@ module _ (l : List ℕ) (d : distinct l ≡ true) (a b : ℕ) where
     (λ h. let e = stands-order l a (h .first) d (h .ofFirst) in let f = stands-order l b (h .second) d (h .ofSecond) in omega (arith, e, f, h .order)),
   )
 
+-- ---- a row for each entry of another list, and none for an entry that is not listed
+pub row-at : (rows : List (List ℕ)) (k : ℕ) → 1 ≤ k → getD ([] ∷ rows) k [] ≡ getD rows (k - 1) []
+row-at rows zero h = absurd (omega arith)
+row-at rows (suc k) h = ap (λ (j : ℕ). getD rows j []) (sym (one-back k))
+
 -- ---- the first k entries
 in-take : (l : List ℕ) (n k j : ℕ) → Stands l n j → j ≤ k → In n (take k l)
 in-take [] n k j h le = absurd (omega (arith, h .from, h .upTo))
-in-take (m ∷ l) n k zero h le = absurd (omega (arith, h .from))
-in-take (m ∷ l) n zero (suc j) h le = absurd (omega arith)
-in-take (m ∷ l) n (suc k) (suc zero) h le = inl (sym (h .there))
-in-take (m ∷ l) n (suc k) (suc (suc j)) h le = inr (in-take l n k (suc j) (stands-back m l n j h) (omega arith))
+in-take (m ∷ l) n zero j h le = absurd (omega (arith, h .from))
+in-take (m ∷ l) n (suc k) j h le = ⊎-elim (λ w. inl (sym (w .1))) (λ w. inr (in-take l n k (w .0) (w .2) (omega (arith, w .1)))) (stands-cases m l n j h)
 
 take-in : (l : List ℕ) (n k : ℕ) → In n (take k l) → In n l
 take-in [] n zero m = m

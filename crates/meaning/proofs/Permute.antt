@@ -8,8 +8,8 @@ use native.Mathlib.Omega.{arith}
 use lib.IntN.{ℤ, _+ℤ_, +ℤ-assoc, +ℤ-comm}
 use lib.ListN.{length}
 use Rattle.meaning.specs.Lists.{any, filter, dedup, sum, sumℤ, In, Every}
-use Rattle.meaning.proofs.Tests.{true≢false, same-test}
-use Rattle.meaning.proofs.Lists.{any-reads, every-reads, any-same, in-dedup, in-flatMap}
+use Rattle.meaning.proofs.Tests.{same-test}
+use Rattle.meaning.proofs.Lists.{NoRepeat, any-reads, every-reads, in-dedup, dedup-noRepeat, in-flatMap}
 
 module _ {A : Type 0} where
   -- ---- lists with the same members, in whatever order and however often
@@ -94,10 +94,6 @@ module _ {A : Type 0} where
       exchange false false a b l = Permᴰ·refl l
 
   -- ---- lists without repeats
-  abbrev pub NoRepeat : List A → Type 0
-  NoRepeat [] = Unit {0}
-  NoRepeat (a ∷ l) = (In a l → ⊥) × NoRepeat l
-
   pub noRepeat-perm : {l l′ : List A} → List·Permᴰ l l′ → NoRepeat l → NoRepeat l′
   noRepeat-perm h =
       perm-induct (λ l l′. NoRepeat l → NoRepeat l′) (λ u. u) (λ a l l′ p k u. ((λ m. u .0 (perm-in a (Permᴰ·symm p) m)), k (u .1)))
@@ -127,19 +123,10 @@ module _ {A : Type 0} where
 
   -- ---- each element once, for a test that says when two are equal
   module _ (same : A → A → Bool) (reads : (a b : A) → (same a b ≡ true) ↔ (a ≡ b)) where
-    pub dedup-noRepeat : (l : List A) → NoRepeat (dedup same l)
-    unfolding dedup
-    dedup-noRepeat [] = tt
-    dedup-noRepeat (a ∷ l) = go (dedup-noRepeat l) (any (same a) l) refl
-      where
-        go : NoRepeat (dedup same l) → (t : Bool) → any (same a) l ≡ t → NoRepeat (cond t (dedup same l) (a ∷ dedup same l))
-        go rec true e = rec
-        go rec false e = ((λ m. true≢false (sym (any-same same reads a l .1 (in-dedup same reads l a .0 m)) ∙ e)), rec)
-
     pub dedup-perm : {l l′ : List A} → List·Permᴰ l l′ → List·Permᴰ (dedup same l) (dedup same l′)
     dedup-perm {l} {l′} h =
         let s = perm-same h in
-        members-perm (dedup same l) (dedup same l′) (dedup-noRepeat l) (dedup-noRepeat l′) (
+        members-perm (dedup same l) (dedup same l′) (dedup-noRepeat same reads l) (dedup-noRepeat same reads l′) (
           (λ a m. in-dedup same reads l′ a .1 (s .0 a (in-dedup same reads l a .0 m))),
           (λ a m. in-dedup same reads l a .1 (s .1 a (in-dedup same reads l′ a .0 m))),
         )

@@ -1,21 +1,28 @@
 -- What it says of a plan that a rule lists no place: one law for each kind of rule.
-use mathlib.Core.Path.{_≡_, refl, sym, ap, _∙_}
-use mathlib.Core.Logic.{_⊎_, inl, inr, _↔_}
-use mathlib.Core.Bool.{Bool, true, not, _&&_}
+use mathlib.Core.Path.{_≡_, refl, sym, ap}
+use mathlib.Core.Logic.{inl, _↔_}
+use mathlib.Core.Bool.{Bool, true, not}
 use mathlib.Core.List.{List, [], _∷_}
 use Prim.Native.Nat.{ℕ}
-use native.Mathlib.Omega.{arith}
-use borrow.Author.Tests.{eqb-true, eq-eqb, ne-eqb}
+use borrow.Author.Tests.{eqb-true, eq-eqb}
 use lib.Dec.{eqb}
 use Rattle.meaning.specs.Lists.{In}
 use Rattle.meaning.specs.Model.{Instance, Truck, Stack, Item, item, truckNumbered, number, truck, copy}
-use Rattle.meaning.specs.Measures.{UsedTruck, usedBy, sameUsed, another, usedTrucks, stacksOn, departures, stacksAt}
+use Rattle.meaning.specs.Measures.{UsedTruck, sameUsed, another, usedTrucks, stacksOn, departures, stacksAt}
 use Rattle.meaning.specs.Rules.{itemPlaces, stackPlaces, pairPlaces, truckPlaces, departurePlaces, counts}
 use Rattle.meaning.specs.Feasible.{OneTruck, onTruckOf}
-use Rattle.meaning.proofs.Tests.{true≢false, and-reads, not-reads}
-use Rattle.meaning.proofs.Lists.{no-cons, flatMap-none, unless-none, among-none}
+use Rattle.meaning.proofs.Tests.{true≢false, and-reads, not-reads, eq-reads, iff-trans, iff-both}
+use Rattle.meaning.proofs.Lists.{flatMap-none, unless-none, among-none}
 
 -- ---- stacks of one used truck
+pub used-reads : (u v : UsedTruck) → (sameUsed u v ≡ true) ↔ (u ≡ v)
+used-reads u v =
+    iff-trans (and-reads (eqb (u .truck) (v .truck)) (eqb (u .copy) (v .copy)))
+    (iff-trans (iff-both (eq-reads (u .truck) (v .truck)) (eq-reads (u .copy) (v .copy))) (
+      (λ h j. record { truck = h .0 j; copy = h .1 j }),
+      (λ e. (ap (λ (w : UsedTruck). w .truck) e, ap (λ (w : UsedTruck). w .copy) e)),
+    ))
+
 pub one-truck : (s r : Stack) → (onTruckOf s r ≡ true) ↔ OneTruck s r
 one-truck s r = (
   (λ e. let k = and-reads (eqb (truck s) (truck r)) (eqb (copy s) (copy r)) .0 e in record { truck = eqb-true _ _ (k .0); copy = eqb-true _ _ (k .1) }),

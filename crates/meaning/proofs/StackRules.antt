@@ -1,7 +1,7 @@
 -- Rules 15 to 21, the stack rules: they list no place exactly when the picture's words about stacks, and about two of them, hold.
 use mathlib.Core.Path.{_≡_, refl, sym, ap, subst, _∙_}
 use mathlib.Core.Logic.{_⊎_, inl, inr, ⊎-elim, _↔_}
-use mathlib.Core.Bool.{Bool, true, false, cond, not, _&&_, _||_}
+use mathlib.Core.Bool.{Bool, true, _&&_, _||_}
 use mathlib.Core.List.{List, [], _∷_, map}
 use Prim.Native.Nat.{ℕ, suc, _*_, _≤_}
 use native.Mathlib.Omega.{arith}
@@ -10,48 +10,26 @@ use lib.Dec.{leb, eqb}
 use lib.IntN.{ℤ, pos, _*ℤ_}
 use lib.Signed.{_≤ℤ_}
 use lib.ListN.{length, getD}
-use Rattle.meaning.specs.Lists.{In, dedup, listed, distinct, orderIn, any}
+use Rattle.meaning.specs.Lists.{In, distinct, orderIn}
 use Rattle.meaning.specs.Model.{Instance, Truck, Stack, Item, item, truckOf, number, orientation, IL, IW, IS, ISM, IO, IP, IG, IU, IK, TMM, TF, TEM}
 use Rattle.meaning.specs.Measures.{above, sm, plantDocksOf}
 use Rattle.meaning.specs.Rules.{itemPlaces, stackPlaces, pairPlaces, alike, dockCount, consecutive, docksFit, onePair, turnedRight}
 use Rattle.meaning.specs.Rules.{weightAbove, topLight, itemCount, fewEnough, densityFits}
 use Rattle.meaning.specs.Feasible.{OneTruck, base, Stands, ItemStacks, OneDock, TwoDocks, weightOf, StackFits, HasTwoDocks}
 use Rattle.meaning.proofs.Tests.{true≢false, and-reads, or-reads, not-reads, le-reads, eq-reads, iff-trans, iff-sym, iff-both, iff-either}
-use Rattle.meaning.proofs.Lists.{in-dedup, in-map, listed-reads}
+use Rattle.meaning.proofs.Lists.{NoRepeat, in-dedup, dedup-noRepeat, in-map}
 use Rattle.meaning.proofs.Orders.{order-stands, stands-order}
 use Rattle.meaning.proofs.RuleKinds.{items-kept, stacks-kept, pairs-kept}
 use Rattle.meaning.proofs.Sound.{Sound, SoundStack}
 use Rattle.meaning.proofs.SignedSums.{le-signed, weight-signed}
 
 -- ---- lists of numbers without repeats
--- `dedup` leaves no number twice
-dedup-distinct : (l : List ℕ) → distinct (dedup eqb l) ≡ true
-unfolding dedup distinct
-dedup-distinct [] = refl
-dedup-distinct (a ∷ l) = go (any (eqb a) l) refl (dedup-distinct l)
-  where
-    go : (t : Bool) → any (eqb a) l ≡ t → distinct (dedup eqb l) ≡ true → distinct (cond t (dedup eqb l) (a ∷ dedup eqb l)) ≡ true
-    go true e d = d
-    go false e d =
-        and-reads (not (listed a (dedup eqb l))) (distinct (dedup eqb l)) .1 (
-          not-reads (listed a (dedup eqb l)) .1
-              (λ k. true≢false (sym (listed-reads a l .1 (in-dedup eqb eq-reads l a .0 (listed-reads a (dedup eqb l) .0 k))) ∙ e)),
-          d,
-        )
-
 -- the first number differs from the others
-first-differs : (a : ℕ) (l : List ℕ) (b : ℕ) → distinct (a ∷ l) ≡ true → In b l → a ≡ b → ⊥
-unfolding distinct
-first-differs a l b d m e =
-    not-reads (listed a l) .0 (and-reads (not (listed a l)) (distinct l) .0 d .0) (listed-reads a l .1 (subst (λ (z : ℕ). In z l) (sym e) m))
-
--- and the others have no repeats either
-rest-distinct : (a : ℕ) (l : List ℕ) → distinct (a ∷ l) ≡ true → distinct l ≡ true
-unfolding distinct
-rest-distinct a l d = and-reads (not (listed a l)) (distinct l) .0 d .1
+first-differs : (a : ℕ) (l : List ℕ) (b : ℕ) → NoRepeat (a ∷ l) → In b l → a ≡ b → ⊥
+first-differs a l b d m e = d .0 (subst (λ (z : ℕ). In z l) (sym e) m)
 
 -- at most one number: all are equal
-all-equal : (l : List ℕ) → distinct l ≡ true → (length l ≤ 1) ↔ ((a b : ℕ) → In a l → In b l → a ≡ b)
+all-equal : (l : List ℕ) → NoRepeat l → (length l ≤ 1) ↔ ((a b : ℕ) → In a l → In b l → a ≡ b)
 all-equal [] d = ((λ h a b m n. absurd m), (λ f. omega arith))
 all-equal (c ∷ []) d = ((λ h a b m n. ⊎-elim (λ e. ⊎-elim (λ e′. e ∙ sym e′) (λ z. absurd z) n) (λ z. absurd z) m), (λ f. omega arith))
 all-equal (c ∷ c′ ∷ l) d = (
@@ -60,7 +38,7 @@ all-equal (c ∷ c′ ∷ l) d = (
 )
 
 -- more than one number: some two differ
-two-differ : (l : List ℕ) → distinct l ≡ true → 2 ≤ length l → (a : ℕ) × (b : ℕ) × In a l × In b l × (a ≡ b → ⊥)
+two-differ : (l : List ℕ) → NoRepeat l → 2 ≤ length l → (a : ℕ) × (b : ℕ) × In a l × In b l × (a ≡ b → ⊥)
 two-differ [] d h = absurd (omega arith)
 two-differ (a ∷ []) d h = absurd (omega arith)
 two-differ (a ∷ b ∷ l) d h = (a, b, inl refl, inr (inl refl), first-differs a (b ∷ l) b d (inl refl))
@@ -73,7 +51,7 @@ two-ways a b c c′ d (inr e) (inl e′) = inr (e, e′)
 two-ways a b c c′ d (inr e) (inr e′) = absurd (d (e ∙ sym e′))
 
 -- all numbers are one of two: at most one is there, or just those two
-of-two : (a b : ℕ) (l : List ℕ) → distinct l ≡ true → ((c : ℕ) → In c l → (c ≡ a) ⊎ (c ≡ b))
+of-two : (a b : ℕ) (l : List ℕ) → NoRepeat l → ((c : ℕ) → In c l → (c ≡ a) ⊎ (c ≡ b))
     → (length l ≤ 1) ⊎ ((l ≡ a ∷ b ∷ []) ⊎ (l ≡ b ∷ a ∷ []))
 of-two a b [] d f = inl (omega arith)
 of-two a b (c ∷ []) d f = inl (omega arith)
@@ -90,7 +68,7 @@ of-two a b (c ∷ c′ ∷ c″ ∷ l) d f = absurd (no-third
     differs = first-differs c (c′ ∷ c″ ∷ l) c″ d (inr (inl refl))
 
     differs′ : c′ ≡ c″ → ⊥
-    differs′ = first-differs c′ (c″ ∷ l) c″ (rest-distinct c (c′ ∷ c″ ∷ l) d) (inl refl)
+    differs′ = first-differs c′ (c″ ∷ l) c″ (d .1) (inl refl)
 
     no-third : ((c ≡ a) × (c′ ≡ b)) ⊎ ((c ≡ b) × (c′ ≡ a)) → (c″ ≡ a) ⊎ (c″ ≡ b) → ⊥
     no-third (inl w) (inl e) = differs (w .0 ∙ sym e)
@@ -135,9 +113,9 @@ module _ (i : Instance) (s : Stack) where
   order = orderIn (on .plantDocks)
 
   -- each dock is counted once
-  docks-distinct : distinct docks ≡ true
+  docks-distinct : NoRepeat docks
   unfolding plantDocksOf
-  docks-distinct = dedup-distinct (map (λ n. IG (item i n)) (s .load))
+  docks-distinct = dedup-noRepeat eqb eq-reads (map (λ n. IG (item i n)) (s .load))
 
   -- they are the plant docks of its items
   in-docks : (g : ℕ) → In g docks ↔ ((n : ℕ) × In n (s .load) × (g ≡ IG (item i n)))

@@ -1,5 +1,5 @@
 -- Tests read as statements: each connective and each comparison once, in both directions.
-use mathlib.Core.Path.{_≡_, refl, sym, subst, _∙_}
+use mathlib.Core.Path.{_≡_, refl, sym, subst}
 use mathlib.Core.Logic.{_⊎_, inl, inr, ⊎-elim, _↔_}
 use mathlib.Core.Bool.{Bool, true, false, not, _&&_, _||_}
 use Prim.Native.Nat.{ℕ, _≤_, _<_}
@@ -73,6 +73,9 @@ iff-trans h k = ((λ a. k .0 (h .0 a)), (λ c. h .1 (k .1 c)))
 
 pub iff-sym : {A B : Type 0} → A ↔ B → B ↔ A
 iff-sym h = (h .1, h .0)
+
+pub iff-not : {A B : Type 0} → A ↔ B → (A → ⊥) ↔ (B → ⊥)
+iff-not h = ((λ f b. f (h .1 b)), (λ f a. f (h .0 a)))
 
 pub iff-both : {A B C D : Type 0} → A ↔ B → C ↔ D → (A × C) ↔ (B × D)
 iff-both h k = ((λ t. (h .0 (t .0), k .0 (t .1))), (λ t. (h .1 (t .0), k .1 (t .1))))

@@ -1,7 +1,6 @@
 -- The verdict on a plan does not depend on the order of its stacks. A rule's places need the same stacks only, in any order; sums and counts need a permutation.
 use mathlib.Core.Path.{_≡_, refl, ap, ap₂, _∙_}
-use mathlib.Core.Logic.{_↔_}
-use mathlib.Core.Bool.{Bool, true, not, _&&_, _||_}
+use mathlib.Core.Bool.{Bool, not, _&&_, _||_}
 use mathlib.Core.List.{List, [], _∷_, _++_, List·Permᴰ}
 use Prim.Native.Nat.{ℕ}
 use lib.Dec.{eqb}
@@ -17,9 +16,9 @@ use Rattle.meaning.specs.Rules.{plantFits, productFits, supplierFits, da
 use Rattle.meaning.specs.Rules.{fewEnough, itemCount, densityFits, inside, dimension, apart, braced, holds, noAmount, inOrder, loadFits, middleFits, rearFits}
 use Rattle.meaning.specs.Rules.{Rule, itemRules, stackRules, placementRules, weightRules, rules}
 use Rattle.meaning.specs.Verdict.{brokenOr, firstBroken, acceptance, cost, transportCost, inventoryCost, verdictOn}
-use Rattle.meaning.proofs.Tests.{and-reads, eq-reads, same-test, iff-trans, iff-both}
+use Rattle.meaning.proofs.Tests.{same-test}
 use Rattle.meaning.proofs.Lists.{every-append}
-use Rattle.meaning.proofs.RuleKinds.{counts-reads}
+use Rattle.meaning.proofs.RuleKinds.{used-reads, counts-reads}
 use Rattle.meaning.proofs.Permute.{Same, same-refl, perm-same, any-perm, length-perm, sum-perm, sumℤ-perm, map-perm, filter-perm, dedup-perm}
 use Rattle.meaning.proofs.Permute.{flatMap-same, flatMap-equal}
 use Rattle.meaning.proofs.Lowest.{lowest-same}
@@ -30,14 +29,6 @@ _&_ : {A B : Type 0} → A → B → A × B
 a & b = (a, b)
 
 -- ---- what the rules measure, in another order
-pub used-reads : (u v : UsedTruck) → (sameUsed u v ≡ true) ↔ (u ≡ v)
-used-reads u v =
-    iff-trans (and-reads (eqb (u .truck) (v .truck)) (eqb (u .copy) (v .copy)))
-    (iff-trans (iff-both (eq-reads (u .truck) (v .truck)) (eq-reads (u .copy) (v .copy))) (
-      (λ h j. record { truck = h .0 j; copy = h .1 j }),
-      (λ e. (ap (λ (w : UsedTruck). w .truck) e, ap (λ (w : UsedTruck). w .copy) e)),
-    ))
-
 counts-perm : (on on′ : List Stack) → List·Permᴰ on on′ → counts on ≡ counts on′
 counts-perm on on′ h =
     let s = perm-same h in
