@@ -13,6 +13,7 @@ pub mod Printed
 pub mod Ranges
 pub mod ReadBack
 pub mod Decode
+pub mod TableAfter
 pub mod Sound
 pub mod RuleKinds
 pub mod ItemRules

@@ -12,6 +12,7 @@ pub record Span : Type 0 where
   pub start : ℕ
   pub end : ℕ
 
+-- a span by its two ends
 abbrev pub span : ℕ → ℕ → Span
 span a b = record { start = a; end = b }
 
@@ -23,6 +24,7 @@ lineSpan (suc n) at [] = none
 lineSpan (suc zero) at (b ∷ bs) = some (span at (at + countBefore 10 (b ∷ bs)))
 lineSpan (suc (suc n)) at (b ∷ bs) = let past = suc (countBefore 10 (b ∷ bs)) in lineSpan (suc n) (at + past) (drop past (b ∷ bs))
 
+-- the two files
 pub data File : Type 0 where
   inInstance : File
   inPlan : File
@@ -49,5 +51,6 @@ handedBack instance plan number line =
 abbrev pub spanBytes : List ℕ → Span → List ℕ
 spanBytes bs s = take (s .end - s .start) (drop (s .start) bs)
 
+-- the bytes of a part of the two files
 abbrev pub partBytes : List ℕ → List ℕ → Part → List ℕ
 partBytes instance plan q = elim (q .file) [ inInstance ↦ spanBytes instance (q .span) | inPlan ↦ spanBytes plan (q .span) ]

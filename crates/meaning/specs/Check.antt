@@ -22,9 +22,11 @@ use Rattle.meaning.specs.Verdict.{refusal, verdictOn}
 abbrev pub firstOfCode : Instance → ℕ → ℕ
 firstOfCode i n = orderIn (map IS (i .items)) (IS (item i n))
 
+-- two items with the same IL and IW
 abbrev pub sameBase : Item → Item → Bool
 sameBase a b = eqb (IL a) (IL b) && eqb (IW a) (IW b)
 
+-- (item, that one), for each item that differs
 unfoldable pub codeClashes : Instance → List Place
 unfolding flatMap upFrom orderFrom
 codeClashes i =

@@ -4,9 +4,10 @@ use mathlib.Core.Logic.{_⊎_, _↔_}
 use mathlib.Core.Option.{Option, none, some}
 use mathlib.Core.List.{List, [], _∷_, _++_, List·Permᴰ}
 use Prim.Native.Nat.{ℕ, _≤_, _<_}
-use lib.ListN.{length}
+use lib.ListN.{length, take, drop, replicate}
 use Rattle.meaning.specs.declared.Limits.{Limits}
 use Rattle.meaning.specs.declared.Place.{Place}
+use Rattle.meaning.specs.declared.Answer.{Answer}
 use Rattle.meaning.specs.Lists.{In, Every}
 use Rattle.meaning.specs.Limits.{named}
 use Rattle.meaning.specs.Model.{Instance, Stack}
@@ -14,7 +15,7 @@ use Rattle.meaning.specs.Table.{words, instanceIn, stacksIn}
 use Rattle.meaning.specs.Places.{lowest}
 use Rattle.meaning.specs.Rules.{Rule, rules}
 use Rattle.meaning.specs.Verdict.{verdictOn, refusal, acceptance, cost}
-use Rattle.meaning.specs.Check.{readable, readFiles, answer, codeClashes}
+use Rattle.meaning.specs.Check.{refused, readable, readFiles, answer, codeClashes, tableAfter}
 use Rattle.meaning.specs.Feasible.{Feasible}
 use Rattle.meaning.specs.Reorder.{Reordered}
 use Rattle.meaning.specs.Print.{printedInstance, printedPlan}
@@ -37,6 +38,7 @@ abbrev pub IsLowest : List Place → Option Place → Type 0
 IsLowest ps none = ps ≡ []
 IsLowest ps (some p) = In p ps × ((q : Place) → In q ps → Before q p → ⊥)
 
+-- what is answered as the lowest place is the lowest
 abbrev pub LowestPlace : Type 0
 LowestPlace = (ps : List Place) → IsLowest ps (lowest ps)
 
@@ -72,6 +74,7 @@ pub record IsPrinted (instance plan : List ℕ) (i : Instance) (p : List Stack) 
   pub says : instance ≡ printedInstance i
   pub stacks : plan ≡ printedPlan p
 
+-- readable files are printed models
 abbrev pub ReadPrinted : Limits → Type 0
 ReadPrinted m = (instance plan : List ℕ) (r : Readable m instance plan) → IsPrinted instance plan (r .says) (r .stacks)
 
@@ -103,8 +106,39 @@ pub record Decoded (m : Limits) (table : List ℕ) (i : Instance) (p : List Stac
   pub stacks : stacksIn m table ≡ p
   pub size : length table ≡ named m
 
+-- so for every model with room
 abbrev pub Decodes : Limits → Type 0
 Decodes m = (i : Instance) (p : List Stack) → Fits m i p → Decoded m (words m i p) i p
+
+-- ---- demand 1 on the definitions (proofs/TableAfter: table-after, read-refused)
+-- the table after a check
+pub record TableKept (m : Limits) (table instance plan : List ℕ) : Type 0 where
+  -- "untouched if short"
+  pub short : length table < named m → tableAfter m table instance plan ≡ table
+  -- it has as many words as before, and "words beyond are untouched"
+  pub size : length (tableAfter m table instance plan) ≡ length table
+  pub beyond : drop (named m) (tableAfter m table instance plan) ≡ drop (named m) table
+  -- "zero in its named words if a file cannot be read"
+  pub zero : named m ≤ length table → (a : Answer) → readFiles m instance plan ≡ refused a
+      → take (named m) (tableAfter m table instance plan) ≡ replicate (named m) 0
+  -- "otherwise exactly what the files say"
+  pub filled : named m ≤ length table → (r : Readable m instance plan) → take (named m) (tableAfter m table instance plan) ≡ words m (r .says) (r .stacks)
+  pub holds : named m ≤ length table → (r : Readable m instance plan) → Decoded m (take (named m) (tableAfter m table instance plan)) (r .says) (r .stacks)
+
+-- so after every check
+abbrev pub TableAfter : Limits → Type 0
+TableAfter m = (table instance plan : List ℕ) → TableKept m table instance plan
+
+-- files that cannot be read have one of the verdicts 2 to 8, without cost and trucks
+pub record RefusedReading (a : Answer) : Type 0 where
+  pub from : 2 ≤ a .number
+  pub upTo : a .number ≤ 8
+  pub cost : a .cost ≡ 0
+  pub trucks : a .trucks ≡ 0
+
+-- so for every refusal of files
+abbrev pub ReadRefused : Limits → Type 0
+ReadRefused m = (instance plan : List ℕ) (a : Answer) → readFiles m instance plan ≡ refused a → RefusedReading a
 
 -- ---- demand 3 (proofs/Picture: accepted-when-feasible; proofs/AnyOrder: order-free, any-order)
 -- a readable plan is accepted exactly when its picture holds
@@ -124,7 +158,24 @@ pub record InOrder (m : Limits) (instance plan : List ℕ) (i : Instance) (p′ 
   pub reordered : Reordered plan (printedPlan p′)
   pub read : readFiles m instance (printedPlan p′) ≡ readable i p′
 
+-- so for every order of a readable plan
 abbrev pub AnyOrder : Limits → Type 0
 AnyOrder m =
     (instance plan : List ℕ) (r : Readable m instance plan) (p′ : List Stack) → List·Permᴰ (r .stacks) p′
     → InOrder m instance plan (r .says) p′
+
+-- ---- all of them, for limits m (proofs/Theorems: theorems)
+pub record Theorems (m : Limits) : Type 0 where
+  pub lowestPlace : LowestPlace
+  pub acceptedExactly : AcceptedExactly
+  pub refusedExactly : RefusedExactly
+  pub readInRange : ReadInRange m
+  pub readFits : ReadFits m
+  pub readPrinted : ReadPrinted m
+  pub readExactly : ReadExactly m
+  pub readRefused : ReadRefused m
+  pub decodes : Decodes m
+  pub tableAfter : TableAfter m
+  pub acceptedWhenFeasible : AcceptedWhenFeasible m
+  pub orderFree : OrderFree m
+  pub anyOrder : AnyOrder m

@@ -21,13 +21,16 @@ use Rattle.meaning.specs.Print.{commaJoined}
 abbrev pub Lines : Type 0
 Lines = List (List ℕ)
 
+-- lines from their texts
 abbrev pub lines : List String → Lines
 lines texts = map bytes texts
 
+-- the file of some lines
 abbrev pub fileOf : Lines → List ℕ
 fileOf [] = []
 fileOf (l ∷ ls) = ended l ++ fileOf ls
 
+-- the printed instance
 abbrev pub printedLoad : Lines
 printedLoad =
     lines (
@@ -46,6 +49,7 @@ printedLoad =
     ∷ []
     )
 
+-- the printed plan
 abbrev pub printedStacks : Lines
 printedStacks = lines ("stacks=1" ∷ "stack=1,1,0,0,0,1" ∷ "load=1,2" ∷ [])
 
@@ -55,10 +59,12 @@ pub data Edit : Type 0 where
   entry : ℕ → ℕ → String → Edit
   line : ℕ → String → Edit
 
+-- the lines after an edit
 abbrev pub edited : Edit → Lines → Lines
 edited (entry n k text) ls = set ls (n - 1) (commaJoined (set (commaParts (getD ls (n - 1) [])) (k - 1) (bytes text)))
 edited (line n text) ls = set ls (n - 1) (bytes text)
 
+-- the lines after several edits
 abbrev pub editedBy : List Edit → Lines → Lines
 editedBy [] ls = ls
 editedBy (e ∷ es) ls = editedBy es (edited e ls)
@@ -69,9 +75,11 @@ pub record Case : Type 0 where
   pub toPlan : List Edit
   pub expected : Answer
 
+-- a case with one edit of the instance
 abbrev pub instanceEdit : Edit → Answer → Case
 instanceEdit e a = record { toInstance = e ∷ []; toPlan = []; expected = a }
 
+-- a case with one edit of the plan
 abbrev pub planEdit : Edit → Answer → Case
 planEdit e a = record { toInstance = []; toPlan = e ∷ []; expected = a }
 
@@ -79,25 +87,31 @@ planEdit e a = record { toInstance = []; toPlan = e ∷ []; expected = a }
 abbrev pub answered : Lines → Lines → Case → Answer
 answered instance plan c = answer small (named small) (fileOf (editedBy (c .toInstance) instance)) (fileOf (editedBy (c .toPlan) plan))
 
+-- a refusal by its number and places
 abbrev pub refusedWith : ℕ → ℕ → ℕ → ℕ → Answer
 refusedWith n a b c = refusal n (place a b c)
 
--- places of the fields in their lines: the truck's line is line 8 of the instance, the stack's is line 2 of the plan
+-- entries of the truck's line, line 8 of the instance, and of the stack's, line 2 of the plan: height of the truck
 abbrev pub TH-entry : String → Edit
 TH-entry v = entry 8 3 v
 
+-- density limit
 abbrev pub TEM-entry : String → Edit
 TEM-entry v = entry 8 9 v
 
+-- limit of the rear axle
 abbrev pub EMmr-entry : String → Edit
 EMmr-entry v = entry 8 19 v
 
+-- limit of the middle axle
 abbrev pub EMmm-entry : String → Edit
 EMmm-entry v = entry 8 20 v
 
+-- copy of the stack
 abbrev pub copy-entry : String → Edit
 copy-entry v = entry 2 3 v
 
+-- x of the stack
 abbrev pub x-entry : String → Edit
 x-entry v = entry 2 4 v
 
@@ -117,6 +131,7 @@ tenEdits =
     ∷ planEdit (line 3 "load=1") (refusedWith 9 2 0 0)
     ∷ []
 
+-- "Proved as a block, ten edits"
 pub ten-edits : map (answered printedLoad printedStacks) tenEdits ≡ map (λ (c : Case). c .expected) tenEdits
 unfolding answer commaParts commaJoined
 ten-edits = refl
@@ -126,6 +141,7 @@ abbrev pub HofReading : Reading → ℤ
 HofReading (refused a) = pos 0
 HofReading (readable i p) = H i (truckNumbered i 1) p
 
+-- H of the printed load
 pub H-printed : HofReading (readFiles small (fileOf printedLoad) (fileOf printedStacks)) ≡ pos 50120000
 unfolding readFiles H
 H-printed = refl

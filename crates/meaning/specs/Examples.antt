@@ -14,6 +14,7 @@ use Rattle.meaning.specs.BadLine.{Part, inInstance, inPlan, span, handed
 use Rattle.meaning.specs.Print.{commaJoined}
 use Rattle.meaning.specs.Example.{Lines, lines, fileOf, Edit, entry, line, Case, instanceEdit, planEdit, answered, refusedWith, printedLoad, printedStacks, TH-entry}
 
+-- the answer that a case expects
 abbrev pub expected : Case → Answer
 expected c = c .expected
 
@@ -42,6 +43,7 @@ twoStops =
     ∷ []
     )
 
+-- its plan
 abbrev pub twoStacks : Lines
 twoStacks = lines ("stacks=2" ∷ "stack=1,1,0,0,0,1" ∷ "load=1" ∷ "stack=2,1,0,1500,0,1" ∷ "load=2" ∷ [])
 
@@ -49,33 +51,39 @@ twoStacks = lines ("stacks=2" ∷ "stack=1,1,0,0,0,1" ∷ "load=1" ∷ "stack=2,
 abbrev pub oneTruck : Answer
 oneTruck = acceptance 100000 1
 
--- entries of the truck's line
+-- entries of the truck's line: load limit
 abbrev pub TMm-is : String → Edit
 TMm-is v = entry 8 4 v
 
+-- limit of the rear axle
 abbrev pub EMmr-is : String → Edit
 EMmr-is v = entry 8 19 v
 
+-- limit of the middle axle
 abbrev pub EMmm-is : String → Edit
 EMmm-is v = entry 8 20 v
 
--- copy, x and y of the second stack
+-- copy of the second stack
 abbrev pub copy2 : String → Edit
 copy2 v = entry 4 3 v
 
+-- its x
 abbrev pub x2 : String → Edit
 x2 v = entry 4 4 v
 
+-- its y
 abbrev pub y2 : String → Edit
 y2 v = entry 4 5 v
 
--- the second item's line for supplier 1: like the first item, with another supplier dock, with another plant dock
+-- the second item's line for supplier 1: like the first item
 abbrev pub sameSupplier : String
 sameSupplier = "item=1500,1000,1000,0,1000,1,2,1,0,0,9,1,1,1,1,1"
 
+-- with another supplier dock
 abbrev pub otherDock : String
 otherDock = "item=1500,1000,1000,0,1000,1,2,1,0,0,9,1,1,1,2,1"
 
+-- with another plant dock
 abbrev pub otherPlantDock : String
 otherPlantDock = "item=1500,1000,1000,0,1000,1,2,1,0,0,9,1,2,1,1,1"
 
@@ -97,6 +105,7 @@ weightCases =
     ∷ edits [] (copy2 "1" ∷ x2 "0" ∷ []) (acceptance 250000 2)
     ∷ []
 
+-- each answer is the expected one
 pub weight-cases : map (answered twoStops twoStacks) weightCases ≡ map expected weightCases
 unfolding answer commaParts commaJoined
 weight-cases = refl
@@ -116,6 +125,7 @@ floorCases =
     ∷ edits (line 6 "item=2000,1500,1000,0,1000,2,2,1,0,0,9,1,1,1,1,1" ∷ []) (line 2 "stack=1,1,0,0,0,2" ∷ y2 "500" ∷ []) oneTruck
     ∷ []
 
+-- each answer is the expected one
 pub floor-cases : map (answered twoStops twoStacks) floorCases ≡ map expected floorCases
 unfolding answer commaParts commaJoined
 floor-cases = refl
@@ -136,6 +146,7 @@ orderCases =
     ∷ edits (line 7 sameSupplier ∷ []) (entry 2 4 "1500" ∷ x2 "0" ∷ []) oneTruck
     ∷ []
 
+-- each answer is the expected one
 pub order-cases : map (answered twoStops twoStacks) orderCases ≡ map expected orderCases
 unfolding answer commaParts commaJoined
 order-cases = refl
@@ -148,6 +159,7 @@ heightCases =
     ∷ edits (TH-entry "1999" ∷ []) (line 3 "load=2,1" ∷ []) (refusedWith 22 1 3 0)
     ∷ []
 
+-- each answer is the expected one
 pub height-cases : map (answered printedLoad printedStacks) heightCases ≡ map expected heightCases
 unfolding answer commaParts commaJoined
 height-cases = refl
@@ -176,6 +188,7 @@ readingCases =
     ∷ instanceEdit (entry 7 2 "801") (refusedWith 6 2 1 0)
     ∷ []
 
+-- each answer is the expected one
 pub reading-cases : map (answered printedLoad printedStacks) readingCases ≡ map expected readingCases
 unfolding answer commaParts commaJoined
 reading-cases = refl
@@ -185,14 +198,17 @@ pub short-table : answer small 8975 (fileOf printedLoad) (fileOf printedStacks) 
 unfolding answer
 short-table = refl
 
+-- an instance of 65,536 bytes, before an overlong plan
 pub overlong-instance : answer small 8976 (replicate 65536 0) (replicate 65536 0) ≡ refusedWith 2 0 0 0
 unfolding answer
 overlong-instance = refl
 
+-- a plan of 65,536 bytes, before an instance that is not in form
 pub overlong-plan : answer small 8976 (replicate 65535 0) (replicate 65536 0) ≡ refusedWith 3 0 0 0
 unfolding answer
 overlong-plan = refl
 
+-- a plan without stacks leaves the first item out
 pub no-stacks : answer small 8976 (fileOf printedLoad) (fileOf (lines ("stacks=0" ∷ []))) ≡ refusedWith 9 1 0 0
 unfolding answer
 no-stacks = refl
@@ -201,6 +217,7 @@ no-stacks = refl
 abbrev pub handed : ℕ → ℕ → Part
 handed number n = handedBack (fileOf printedLoad) (fileOf printedStacks ++ bytes "left") number n
 
+-- parts by file and place
 pub bad-lines :
     handed 5 3 ∷ handed 8 3 ∷ handed 7 4 ∷ handed 9 3 ∷ handed 4 13 ∷ handed 7 0 ∷ []
     ≡ record { file = inInstance; span = span 24 33 }

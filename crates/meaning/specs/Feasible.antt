@@ -30,7 +30,7 @@ pub record Stands (l : List ℕ) (n k : ℕ) : Type 0 where
   pub upTo : k ≤ length l
   pub there : getD l (k - 1) 0 ≡ n
 
--- a stands before b in a list; a stands before b or both at one place
+-- a stands before b in a list
 pub record Earlier (l : List ℕ) (a b : ℕ) : Type 0 where
   pub first : ℕ
   pub second : ℕ
@@ -38,6 +38,7 @@ pub record Earlier (l : List ℕ) (a b : ℕ) : Type 0 where
   pub ofSecond : Stands l b second
   pub order : first < second
 
+-- a stands before b, or both stand at one place
 pub record NotLater (l : List ℕ) (a b : ℕ) : Type 0 where
   pub first : ℕ
   pub second : ℕ
@@ -100,6 +101,7 @@ pub record TwoDocks (i : Instance) (s : Stack) : Type 0 where
 abbrev pub weightOf : Instance → List ℕ → ℤ
 weightOf i ns = sumℤ (λ n. pos (IM (item i n))) ns
 
+-- 15 to 21 for one stack
 pub record StackFits (i : Instance) (s : Stack) : Type 0 where
   pub items : (n : ℕ) → In n (s .load) → ItemStacks i s n
   -- 16: one plant dock, or with TF = 1 two consecutive ones
@@ -161,10 +163,11 @@ pub record RulesHold (i : Instance) (p : List Stack) : Type 0 where
 abbrev pub turnedBy : Stack → ℕ → ℕ → ℕ
 turnedBy s a b = getD (a ∷ b ∷ []) (orientation s - 1) 0
 
--- where a stack ends along the trailer and across it
+-- where a stack ends along the trailer
 abbrev pub endX : Instance → Stack → ℕ
 endX i s = x s + turnedBy s (IL (base i s)) (IW (base i s))
 
+-- where it ends across the trailer
 abbrev pub endY : Instance → Stack → ℕ
 endY i s = y s + turnedBy s (IW (base i s)) (IL (base i s))
 
@@ -195,10 +198,11 @@ Chain i p (s ∷ []) = In s p × (x s ≡ 0)
 Chain i p (s ∷ r ∷ chain) = In s p × OneTruck s r × Contact i s r × Chain i p (r ∷ chain)
 
 -- ---- part 5, levers
--- "each stack on brings sm × (2A − x − xe) × CJfh to the middle axle and sm × (x + xe − 2 × EJeh) to the rear"
+-- "each stack on brings sm × (2A − x − xe) × CJfh to the middle axle"
 abbrev pub toMiddle : Instance → Truck → Stack → ℤ
 toMiddle i t s = weightOf i (s .load) *ℤ (pos 2 *ℤ (pos (EJeh t) +ℤ pos (EJhr t)) -ℤ pos (x s) -ℤ pos (endX i s)) *ℤ pos (CJfh t)
 
+-- "and sm × (x + xe − 2 × EJeh) to the rear"
 abbrev pub toRear : Instance → Truck → Stack → ℤ
 toRear i t s = weightOf i (s .load) *ℤ (pos (x s) +ℤ pos (endX i s) -ℤ pos 2 *ℤ pos (EJeh t))
 

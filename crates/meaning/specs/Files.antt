@@ -12,11 +12,13 @@ use Rattle.meaning.specs.Reader.{Reader, give, line, times, onward, _>>=
 use Rattle.meaning.specs.Model.{Instance, Truck, Stack, IL, IH, IDE, stackNumber}
 
 -- ---- ranges
+-- the lowest and the highest number of a range
 pub record Range : Type 0 where
   pub low : ℕ
   pub high : ℕ
 
 infix 90 _to_
+-- a range by its ends, both included
 abbrev pub _to_ : ℕ → ℕ → Range
 a to b = record { low = a; high = b }
 
@@ -53,6 +55,7 @@ itemRanges a =
     1 to 20000 ∷ 1 to IL a ∷ 1 to 20000 ∷ 0 to (IH a - 1) ∷ 1 to 50000 ∷ identifier ∷ 1 to 64 ∷ identifier
     ∷ 0 to 2 ∷ 0 to 399 ∷ IDE a to 399 ∷ identifier ∷ identifier ∷ identifier ∷ identifier ∷ 0 to 100000 ∷ []
 
+-- an item's line
 abbrev pub itemLine : Form
 itemLine = record { key = "item="; least = 16; most = 16; fits = λ a. allWithin (itemRanges a) a }
 
@@ -63,18 +66,23 @@ truckRanges =
     ∷ 0 to 50000 ∷ 1 to 20000 ∷ 0 to 20000 ∷ 0 to 20000
     ∷ 0 to 50000 ∷ 1 to 20000 ∷ 0 to 20000 ∷ 0 to 20000 ∷ 1 to 50000 ∷ 1 to 50000 ∷ []
 
+-- a truck's line
 abbrev pub truckLine : Form
 truckLine = rowLine "truck=" truckRanges
 
+-- "products= (1..32 entries)"
 abbrev pub productsLine : Form
 productsLine = identifiersLine "products=" 32
 
+-- "suppliers= (1..8)"
 abbrev pub suppliersLine : Form
 suppliersLine = identifiersLine "suppliers=" 8
 
+-- "one docks= per supplier in their order (1..8)"
 abbrev pub docksLine : Form
 docksLine = identifiersLine "docks=" 8
 
+-- "plantdocks= (1..8)"
 abbrev pub plantDocksLine : Form
 plantDocksLine = identifiersLine "plantdocks=" 8
 

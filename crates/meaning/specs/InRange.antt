@@ -17,6 +17,7 @@ pub record Meets (f : Form) (ns : List ℕ) : Type 0 where
   pub most : length ns ≤ f .most
   pub fits : f .fits ns ≡ true
 
+-- a truck's lines in range
 pub record TruckInRange (t : Truck) : Type 0 where
   pub fields : Meets truckLine (t .fields)
   pub products : Meets productsLine (t .products)
@@ -25,6 +26,7 @@ pub record TruckInRange (t : Truck) : Type 0 where
   pub docks : Every (Meets docksLine) (t .docks)
   pub plantDocks : Meets plantDocksLine (t .plantDocks)
 
+-- an instance in range
 pub record InstanceInRange (m : Limits) (i : Instance) : Type 0 where
   pub αT : i .αT ≤ 1000
   pub αI : i .αI ≤ 1000
@@ -43,6 +45,7 @@ StacksInRange most items trucks taken held (s ∷ p) =
     Meets (stackLine trucks taken) (s .fields) × Meets (loadLine most items held) (s .load)
     × StacksInRange most items trucks (number s ∷ taken) (held + length (s .load)) p
 
+-- both files in range
 pub record InRange (m : Limits) (i : Instance) (p : List Stack) : Type 0 where
   pub instance : InstanceInRange m i
   pub stackCount : length p ≤ m .stacks
@@ -57,6 +60,7 @@ pub record TruckFits (t : Truck) : Type 0 where
   pub docks : Every (λ (d : List ℕ). length d ≤ 8) (t .docks)
   pub plantDocks : length (t .plantDocks) ≤ 8
 
+-- a model within the table
 pub record Fits (m : Limits) (i : Instance) (p : List Stack) : Type 0 where
   pub itemCount : length (i .items) ≤ m .items
   pub items : Every (λ (a : Item). length a ≡ 16) (i .items)

@@ -41,11 +41,12 @@ module _ {A : Type 0} where
   chunks w zero l = []
   chunks w (suc n) l = take w l ∷ chunks w n (drop w l)
 
-  -- a sum over the elements, in whole numbers from 0 and in signed ones
+  -- a sum over the elements, in whole numbers from 0
   unfoldable pub sum : (A → ℕ) → List A → ℕ
   sum f [] = 0
   sum f (a ∷ l) = f a + sum f l
 
+  -- the same in signed numbers
   unfoldable pub sumℤ : (A → ℤ) → List A → ℤ
   sumℤ f [] = pos 0
   sumℤ f (a ∷ l) = f a +ℤ sumℤ f l

@@ -18,23 +18,27 @@ bottom i s = item i (getD (s .load) 0 0)
 abbrev pub above : Stack → List ℕ
 above s = drop 1 (s .load)
 
--- "sl, sw are IL, IW of the bottom item"
+-- "sl, sw are IL, IW of the bottom item": sl
 abbrev pub sl : Instance → Stack → ℕ
 sl i s = IL (bottom i s)
 
+-- sw
 abbrev pub sw : Instance → Stack → ℕ
 sw i s = IW (bottom i s)
 
--- "Orientation 1 gives xe = x + sl, ye = y + sw; 2 exchanges sl and sw": the extents along and across the trailer
+-- "Orientation 1 gives xe = x + sl, ye = y + sw; 2 exchanges sl and sw": the extent along the trailer
 abbrev pub along : Instance → Stack → ℕ
 along i s = cond (eqb (orientation s) 1) (sl i s) (sw i s)
 
+-- the extent across the trailer
 abbrev pub across : Instance → Stack → ℕ
 across i s = cond (eqb (orientation s) 1) (sw i s) (sl i s)
 
+-- xe
 abbrev pub xe : Instance → Stack → ℕ
 xe i s = x s + along i s
 
+-- ye
 abbrev pub ye : Instance → Stack → ℕ
 ye i s = y s + across i s
 
@@ -83,9 +87,11 @@ pub record UsedTruck : Type 0 where
   pub truck : ℕ
   pub copy : ℕ
 
+-- the used truck of a stack
 abbrev pub usedBy : Stack → UsedTruck
 usedBy s = record { truck = truck s; copy = copy s }
 
+-- the same truck and copy
 abbrev pub sameUsed : UsedTruck → UsedTruck → Bool
 sameUsed u v = eqb (u .truck) (v .truck) && eqb (u .copy) (v .copy)
 

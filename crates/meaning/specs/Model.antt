@@ -8,13 +8,15 @@ use lib.ListN.{getD}
 abbrev pub Item : Type 0
 Item = List ℕ
 
--- length, width and height, in millimetres
+-- length, in millimetres
 abbrev pub IL : Item → ℕ
 IL a = getD a 0 0
 
+-- width
 abbrev pub IW : Item → ℕ
 IW a = getD a 1 0
 
+-- height
 abbrev pub IH : Item → ℕ
 IH a = getD a 2 0
 
@@ -42,28 +44,31 @@ IR a = getD a 7 0
 abbrev pub IO : Item → ℕ
 IO a = getD a 8 0
 
--- earliest and latest day
+-- earliest day
 abbrev pub IDE : Item → ℕ
 IDE a = getD a 9 0
 
+-- latest day
 abbrev pub IDL : Item → ℕ
 IDL a = getD a 10 0
 
--- plant and plant dock
+-- plant
 abbrev pub IP : Item → ℕ
 IP a = getD a 11 0
 
+-- plant dock
 abbrev pub IG : Item → ℕ
 IG a = getD a 12 0
 
--- supplier and supplier dock
+-- supplier
 abbrev pub IU : Item → ℕ
 IU a = getD a 13 0
 
+-- supplier dock
 abbrev pub IK : Item → ℕ
 IK a = getD a 14 0
 
--- inventory cost of a day
+-- daily cost
 abbrev pub IC : Item → ℕ
 IC a = getD a 15 0
 
@@ -75,13 +80,15 @@ pub record Truck : Type 0 where
   pub docks : List (List ℕ)
   pub plantDocks : List ℕ
 
--- length, width and height
+-- length
 abbrev pub TL : Truck → ℕ
 TL t = getD (t .fields) 0 0
 
+-- width
 abbrev pub TW : Truck → ℕ
 TW t = getD (t .fields) 1 0
 
+-- height
 abbrev pub TH : Truck → ℕ
 TH t = getD (t .fields) 2 0
 
@@ -89,10 +96,11 @@ TH t = getD (t .fields) 2 0
 abbrev pub TMm : Truck → ℕ
 TMm t = getD (t .fields) 3 0
 
--- plant, and day of arrival there
+-- plant
 abbrev pub TP : Truck → ℕ
 TP t = getD (t .fields) 4 0
 
+-- arrival day
 abbrev pub TDA : Truck → ℕ
 TDA t = getD (t .fields) 5 0
 
@@ -112,36 +120,43 @@ TEM t = getD (t .fields) 8 0
 abbrev pub TC : Truck → ℕ
 TC t = getD (t .fields) 9 0
 
--- tractor: weight; from front axle to middle axle, to the tractor's centre, to the harness
+-- weight of the tractor
 abbrev pub CM : Truck → ℕ
 CM t = getD (t .fields) 10 0
 
+-- from front to middle axle
 abbrev pub CJfm : Truck → ℕ
 CJfm t = getD (t .fields) 11 0
 
+-- from front axle to the tractor's centre
 abbrev pub CJfc : Truck → ℕ
 CJfc t = getD (t .fields) 12 0
 
+-- from front axle to harness
 abbrev pub CJfh : Truck → ℕ
 CJfh t = getD (t .fields) 13 0
 
--- trailer: empty weight; from harness to rear axle, from the trailer's centre to the rear axle, from its front end (x = 0) to the harness
+-- weight of the empty trailer
 abbrev pub EM : Truck → ℕ
 EM t = getD (t .fields) 14 0
 
+-- from harness to rear axle
 abbrev pub EJhr : Truck → ℕ
 EJhr t = getD (t .fields) 15 0
 
+-- from the trailer's centre to the rear axle
 abbrev pub EJcr : Truck → ℕ
 EJcr t = getD (t .fields) 16 0
 
+-- from the trailer's front end (x = 0) to the harness
 abbrev pub EJeh : Truck → ℕ
 EJeh t = getD (t .fields) 17 0
 
--- limits of the rear axle and of the middle axle
+-- limit of the rear axle
 abbrev pub EMmr : Truck → ℕ
 EMmr t = getD (t .fields) 18 0
 
+-- limit of the middle axle
 abbrev pub EMmm : Truck → ℕ
 EMmm t = getD (t .fields) 19 0
 
@@ -153,13 +168,15 @@ pub record Instance : Type 0 where
   pub items : List Item
   pub trucks : List Truck
 
--- "Items and trucks are numbered from 1 in file order"
+-- "Items and trucks are numbered from 1 in file order": the item of a number
 abbrev pub item : Instance → ℕ → Item
 item i n = getD (i .items) (n - 1) []
 
+-- stands in for a number that no truck has
 abbrev pub noTruck : Truck
 noTruck = record { fields = []; products = []; suppliers = []; docks = []; plantDocks = [] }
 
+-- the truck of a number
 abbrev pub truckNumbered : Instance → ℕ → Truck
 truckNumbered i n = getD (i .trucks) (n - 1) noTruck
 
@@ -172,9 +189,11 @@ pub record Stack : Type 0 where
 abbrev pub stackNumber : List ℕ → ℕ
 stackNumber fields = getD fields 0 0
 
+-- its number
 abbrev pub number : Stack → ℕ
 number s = stackNumber (s .fields)
 
+-- the number of its truck
 abbrev pub truck : Stack → ℕ
 truck s = getD (s .fields) 1 0
 
@@ -182,9 +201,11 @@ truck s = getD (s .fields) 1 0
 abbrev pub copy : Stack → ℕ
 copy s = getD (s .fields) 2 0
 
+-- where it begins along the trailer, from the front wall
 abbrev pub x : Stack → ℕ
 x s = getD (s .fields) 3 0
 
+-- where it begins across the trailer
 abbrev pub y : Stack → ℕ
 y s = getD (s .fields) 4 0
 

@@ -6,6 +6,7 @@ use Prim.Native.Nat.{ℕ}
 use lib.Dec.{ltb, eqb}
 use Rattle.meaning.specs.declared.Place.{Place}
 
+-- a place by its three numbers
 abbrev pub place : ℕ → ℕ → ℕ → Place
 place a b c = record { first = a; second = b; third = c }
 

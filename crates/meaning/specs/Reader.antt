@@ -10,6 +10,7 @@ pub data Outcome (A : Type 0) : Type 0 where
   wrongForm : ℕ → Outcome A
   outOfRange : ℕ → Outcome A
 
+-- from the next line's number and the bytes left to an outcome
 abbrev pub Reader : Type 0 → Type 0
 Reader A = ℕ → List ℕ → Outcome A
 
@@ -24,6 +25,7 @@ onward (wrongForm n) next = wrongForm n
 onward (outOfRange n) next = outOfRange n
 
 infixl 10 _>>=_
+-- one reader and then another: what a `do` block means
 abbrev pub _>>=_ : {A B : Type 0} → Reader A → (A → Reader B) → Reader B
 _>>=_ reader next n bs = onward (reader n bs) next
 

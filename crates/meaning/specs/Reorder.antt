@@ -15,6 +15,7 @@ pub record LinePair : Type 0 where
 abbrev pub ended : List ℕ → List ℕ
 ended line = line ++ (10 ∷ [])
 
+-- the two lines as they stand in the plan
 abbrev pub pairBytes : LinePair → List ℕ
 pairBytes b = ended (b .stackLine) ++ ended (b .loadLine)
 
@@ -27,6 +28,7 @@ planOf first pairs = ended first ++ flatMap pairBytes pairs
 abbrev pub OneLine : List ℕ → Type 0
 OneLine line = listed 10 line ≡ false
 
+-- both lines of a pair are lines
 pub record OneLineEach (b : LinePair) : Type 0 where
   pub stackLine : OneLine (b .stackLine)
   pub loadLine : OneLine (b .loadLine)

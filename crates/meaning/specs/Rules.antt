@@ -135,12 +135,15 @@ abbrev pub densityFits : Instance → List Stack → Stack → Bool
 densityFits i p s = leb (sm i s * 1000000) (TEM (truckOf i s) * sl i s * sw i s)
 
 -- ---- placement rules
+-- xe ≤ TL
 abbrev pub lengthFits : Instance → Stack → Bool
 lengthFits i s = leb (xe i s) (TL (truckOf i s))
 
+-- ye ≤ TW
 abbrev pub widthFits : Instance → Stack → Bool
 widthFits i s = leb (ye i s) (TW (truckOf i s))
 
+-- height ≤ TH
 abbrev pub heightFits : Instance → Stack → Bool
 heightFits i s = leb (height i s) (heightLimit i s)
 
@@ -207,11 +210,13 @@ unfolding H weightOn
 rearFits i t on = leZ (pos 2 *ℤ pos (EJhr t) *ℤ (pos (weightOn i on) +ℤ pos (EM t)) -ℤ H i t on) (pos 2 *ℤ pos (EJhr t) *ℤ pos (EMmr t))
 
 -- ---- the rules in the order of the verdict table
+-- a verdict number, and the places where its rule is broken
 pub record Rule : Type 0 where
   pub verdict : ℕ
   pub places : Instance → List Stack → List Place
 
 infix 80 _at_
+-- a row of the table
 abbrev pub _at_ : ℕ → (Instance → List Stack → List Place) → Rule
 n at places = record { verdict = n; places = places }
 
@@ -240,6 +245,7 @@ stackRules =
     ∷ 21 at stackPlaces densityFits sm
     ∷ []
 
+-- placement rules, 22 to 25
 unfoldable pub placementRules : List Rule
 unfolding stackPlaces pairPlaces height any precedes
 placementRules =
@@ -249,6 +255,7 @@ placementRules =
     ∷ 25 at pairPlaces inOrder
     ∷ []
 
+-- weight rules, 26 to 28
 unfoldable pub weightRules : List Rule
 unfolding truckPlaces departurePlaces loadFits middleFits rearFits
 weightRules =
@@ -257,6 +264,7 @@ weightRules =
     ∷ 28 at departurePlaces rearFits
     ∷ []
 
+-- all of 9 to 28
 unfoldable pub rules : List Rule
 unfolding itemRules stackRules placementRules weightRules
 rules = itemRules ++ (stackRules ++ (placementRules ++ weightRules))
