@@ -24,5 +24,6 @@ pub mod Chains
 pub mod LoadingOrder
 pub mod Levers
 pub mod Picture
+pub mod PrintedLoad
 pub mod VerdictOrder
 pub mod AnyOrder

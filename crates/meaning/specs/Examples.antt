@@ -4,12 +4,12 @@ use mathlib.Core.Path.{_≡_, refl}
 use mathlib.Core.List.{List, [], _∷_, _++_, map}
 use Prim.Native.Nat.{ℕ}
 use Prim.Native.String.{String}
-use lib.ListN.{replicate}
+use lib.ListN.{getD, replicate}
 use Rattle.meaning.specs.declared.Answer.{Answer}
 use Rattle.meaning.specs.Limits.{small}
 use Rattle.meaning.specs.Text.{bytes, commaParts}
 use Rattle.meaning.specs.Verdict.{acceptance}
-use Rattle.meaning.specs.Check.{answer}
+use Rattle.meaning.specs.Check.{answer, tableAfter}
 use Rattle.meaning.specs.BadLine.{Part, inInstance, inPlan, span, handedBack}
 use Rattle.meaning.specs.Print.{commaJoined}
 use Rattle.meaning.specs.Example.{Lines, lines, fileOf, Edit, entry, line, Case, instanceEdit, planEdit, answered, refusedWith, printedLoad, printedStacks, TH-entry}
@@ -229,3 +229,34 @@ pub bad-lines :
     ∷ []
 unfolding handedBack
 bad-lines = refl
+
+-- ---- the table afterwards, by the places that document 01 names; 5 stood in every word before
+abbrev pub wordsAt : List ℕ → List ℕ → List ℕ
+wordsAt table places = map (λ n. getD table n 9) places
+
+-- the printed load: head, items, the truck's lists behind their counts, the stack, the loads, the word beyond
+pub printed-table :
+    wordsAt (tableAfter small (replicate 8977 5) (fileOf printedLoad) (fileOf printedStacks)) (
+    0 ∷ 3 ∷ 5 ∷ 6 ∷ 16 ∷ 31 ∷ 35 ∷ 48 ∷ 4112 ∷ 4131 ∷ 4132 ∷ 4133 ∷ 4134 ∷ 4165 ∷ 4166 ∷ 4174 ∷ 4182 ∷ 4246 ∷ 4247 ∷ 4272
+    ∷ 6672 ∷ 6677 ∷ 6678 ∷ 6679 ∷ 6680 ∷ 8720 ∷ 8721 ∷ 8722 ∷ 8976 ∷ []
+    )
+    ≡ 2 ∷ 2 ∷ 1 ∷ 0 ∷ 1200 ∷ 4 ∷ 100 ∷ 0 ∷ 13000 ∷ 12000 ∷ 1 ∷ 1 ∷ 0 ∷ 1 ∷ 1 ∷ 1 ∷ 1 ∷ 1 ∷ 1 ∷ 0
+    ∷ 1 ∷ 1 ∷ 0 ∷ 2 ∷ 0 ∷ 1 ∷ 2 ∷ 0 ∷ 5 ∷ []
+unfolding tableAfter
+printed-table = refl
+
+-- the load with two stops: the second supplier and its docks, the second stack, whose load is entry 1
+pub two-stops-table :
+    wordsAt (tableAfter small (replicate 8976 5) (fileOf twoStops) (fileOf twoStacks)) (4165 ∷ 4167 ∷ 4175 ∷ 4190 ∷ 6680 ∷ 6683 ∷ 6686 ∷ 6687 ∷ 8721 ∷ [])
+    ≡ 2 ∷ 2 ∷ 1 ∷ 1 ∷ 2 ∷ 1500 ∷ 1 ∷ 1 ∷ 2 ∷ []
+unfolding tableAfter
+two-stops-table = refl
+
+-- files that cannot be read zero the named words; a short table is left
+pub refused-table : tableAfter small (replicate 8977 5) [] [] ≡ replicate 8976 0 ++ 5 ∷ []
+unfolding tableAfter
+refused-table = refl
+
+pub kept-table : tableAfter small (replicate 8975 5) (fileOf printedLoad) (fileOf printedStacks) ≡ replicate 8975 5
+unfolding tableAfter
+kept-table = refl

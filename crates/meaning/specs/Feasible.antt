@@ -1,5 +1,5 @@
 -- Document 01, "The picture of demand 3": a feasible load. It is worked out from what the two files say (Model) and from nothing that the
--- rules use: no test of theirs, no list of used trucks or departures, no measure. Every difference is in signed whole numbers.
+-- rules use: no test of theirs, no list of used trucks or departures, no measure. Sums and differences of measures are in signed whole numbers.
 use mathlib.Core.Path.{_≡_}
 use mathlib.Core.Bool.{Bool, true, cond, _&&_}
 use mathlib.Core.Logic.{_⊎_}
@@ -97,6 +97,14 @@ pub record TwoDocks (i : Instance) (s : Stack) : Type 0 where
   pub atSecond : Stands (truckOf i s .plantDocks) second (suc k)
   pub dock : (n : ℕ) → In n (s .load) → (IG (item i n) ≡ first) ⊎ (IG (item i n) ≡ second)
 
+-- a stack with two plant docks: two of its items are for different ones
+pub record HasTwoDocks (i : Instance) (s : Stack) : Type 0 where
+  pub first : ℕ
+  pub second : ℕ
+  pub ofFirst : In first (s .load)
+  pub ofSecond : In second (s .load)
+  pub differ : IG (item i first) ≡ IG (item i second) → ⊥
+
 -- the weight of items
 abbrev pub weightOf : Instance → List ℕ → ℤ
 weightOf i ns = sumℤ (λ n. pos (IM (item i n))) ns
@@ -135,14 +143,6 @@ pub data MustPrecede (i : Instance) (s r : Stack) : Type 0 where
       → ((n m : ℕ) → In n (s .load) → In m (r .load) → NotLater (truckOf i s .plantDocks) (IG (item i n)) (IG (item i m)))
       → (((n m : ℕ) → In n (s .load) → In m (r .load) → NotLater (truckOf i s .plantDocks) (IG (item i m)) (IG (item i n))) → ⊥)
       → MustPrecede i s r
-
--- a stack with two plant docks: two of its items are for different ones
-pub record HasTwoDocks (i : Instance) (s : Stack) : Type 0 where
-  pub first : ℕ
-  pub second : ℕ
-  pub ofFirst : In first (s .load)
-  pub ofSecond : In second (s .load)
-  pub differ : IG (item i first) ≡ IG (item i second) → ⊥
 
 -- ---- part 1, rules: "the item and stack rules, each stack's height at most TH, the load limit W1, the loading order P4"
 pub record RulesHold (i : Instance) (p : List Stack) : Type 0 where

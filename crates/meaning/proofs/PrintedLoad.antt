@@ -1,0 +1,49 @@
+-- The picture of the printed load holds, and with the stack a millimetre off the wall it does not: neither side of the theorem is empty.
+use mathlib.Core.Path.{_≡_, refl}
+use mathlib.Core.List.{List, [], _∷_}
+use Prim.Native.Nat.{ℕ}
+use native.Mathlib.Nat.{le-refl}
+use native.Mathlib.Omega.{arith}
+use Rattle.meaning.specs.Limits.{small, named}
+use Rattle.meaning.specs.Text.{commaParts}
+use Rattle.meaning.specs.Model.{Instance, Stack}
+use Rattle.meaning.specs.Check.{Reading, refused, readable, readFiles, answer}
+use Rattle.meaning.specs.Feasible.{Feasible}
+use Rattle.meaning.specs.Print.{commaJoined}
+use Rattle.meaning.specs.Example.{Lines, fileOf, edited, x-entry, printedLoad, printedStacks}
+use Rattle.meaning.specs.Claims.{Readable}
+use Rattle.meaning.proofs.Picture.{accepted-when-feasible}
+
+-- what a reading says, where it says something
+abbrev instanceOf : Reading → Instance
+instanceOf (refused a) = record { αT = 0; αI = 0; αE = 0; items = []; trucks = [] }
+instanceOf (readable i p) = i
+
+abbrev stacksOf : Reading → List Stack
+stacksOf (refused a) = []
+stacksOf (readable i p) = p
+
+abbrev readAs : Lines → Reading
+readAs plan = readFiles small (fileOf printedLoad) (fileOf plan)
+
+-- the plan with its stack at x = 1
+abbrev movedStacks : Lines
+movedStacks = edited (x-entry "1") printedStacks
+
+printed-read : Readable small (fileOf printedLoad) (fileOf printedStacks)
+unfolding readFiles
+printed-read = record { says = instanceOf (readAs printedStacks); stacks = stacksOf (readAs printedStacks); read = refl }
+
+moved-read : Readable small (fileOf printedLoad) (fileOf movedStacks)
+unfolding readFiles commaParts commaJoined
+moved-read = record { says = instanceOf (readAs movedStacks); stacks = stacksOf (readAs movedStacks); read = refl }
+
+pub printed-feasible : Feasible (instanceOf (readAs printedStacks)) (stacksOf (readAs printedStacks))
+unfolding answer printed-read
+printed-feasible = accepted-when-feasible small (named small) (fileOf printedLoad) (fileOf printedStacks) (le-refl (named small)) printed-read .0 refl
+
+pub moved-infeasible : Feasible (instanceOf (readAs movedStacks)) (stacksOf (readAs movedStacks)) → ⊥
+unfolding answer moved-read commaParts commaJoined
+moved-infeasible f =
+    let e : _≡_ {A = ℕ} 24 0 = accepted-when-feasible small (named small) (fileOf printedLoad) (fileOf movedStacks) (le-refl (named small)) moved-read .1 f in
+    omega (arith, e)
