@@ -12,6 +12,8 @@ pub mod Digits
 pub mod Printed
 pub mod Ranges
 pub mod ReadBack
+pub mod Fields
+pub mod ReadExactly
 pub mod Decode
 pub mod TableAfter
 pub mod Sound
@@ -27,3 +29,4 @@ pub mod Picture
 pub mod PrintedLoad
 pub mod VerdictOrder
 pub mod AnyOrder
+pub mod Theorems

@@ -1,6 +1,6 @@
 -- The picture of the printed load holds, and with the stack a millimetre off the wall it does not: neither side of the theorem is empty.
 use mathlib.Core.Path.{_≡_, refl}
-use mathlib.Core.List.{List, [], _∷_}
+use mathlib.Core.List.{List, []}
 use Prim.Native.Nat.{ℕ}
 use native.Mathlib.Nat.{le-refl}
 use native.Mathlib.Omega.{arith}

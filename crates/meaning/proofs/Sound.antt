@@ -3,7 +3,7 @@ use mathlib.Core.Path.{_≡_, sym, ap, subst, _∙_}
 use mathlib.Core.Logic.{_⊎_, inl, inr, ⊎-elim}
 use mathlib.Core.Bool.{true, not}
 use mathlib.Core.List.{List, [], _∷_}
-use Prim.Native.Nat.{ℕ, zero, suc, _+_, _-_, _≤_, _<_}
+use Prim.Native.Nat.{ℕ, _+_, _-_, _≤_}
 use Prim.Native.String.{String}
 use native.Mathlib.Nat.{eq-or-lt-of-le}
 use native.Mathlib.Omega.{arith}
@@ -11,10 +11,11 @@ use lib.Dec.{leb}
 use lib.ListN.{length, getD}
 use Rattle.meaning.specs.declared.Limits.{Limits}
 use Rattle.meaning.specs.Lists.{In, Every, all, listed, distinct, between}
-use Rattle.meaning.specs.Model.{Instance, Stack, Item, item, noTruck, truckOf, stackNumber, number, truck, orientation, IL, IW, IH, nesting}
+use Rattle.meaning.specs.Model.{Instance, Stack, item, noTruck, truckOf, number, truck, orientation, IL, IW, IH, nesting}
 use Rattle.meaning.specs.Measures.{bottom}
-use Rattle.meaning.specs.Files.{Range, _to_, allWithin, itemRanges, stackRanges, identifiersLine, docksLine, itemLine, stackLine, loadLine}
+use Rattle.meaning.specs.Files.{_to_, allWithin, stackRanges, identifiersLine, docksLine, itemLine, stackLine, loadLine}
 use Rattle.meaning.specs.InRange.{Meets, TruckInRange, InstanceInRange, StacksInRange, InRange}
+use Rattle.meaning.proofs.Fields.{Within, item-within, stack-within}
 use Rattle.meaning.proofs.Tests.{and-reads, not-reads, between-reads}
 use Rattle.meaning.proofs.Lists.{all-reads, every-map, every-at, at-in, listed-reads}
 
@@ -33,29 +34,6 @@ pub record Sound (i : Instance) (p : List Stack) : Type 0 where
   pub known : (s r : Stack) → In s p → In r p → number s ≡ number r → s ≡ r
 
 -- ---- fields
--- a number lies in a range
-abbrev Within : Range → ℕ → Type 0
-Within r n = (r .low ≤ n) × (n ≤ r .high)
-
--- the field at a place lies in the range at that place
-field-within : (rs : List Range) (ns : List ℕ) (k : ℕ) → allWithin rs ns ≡ true → k < length rs → k < length ns → Within (getD rs k (0 to 0)) (getD ns k 0)
-unfolding allWithin
-field-within [] ns k e h l = absurd (omega arith)
-field-within (r ∷ rs) [] k e h l = absurd (omega arith)
-field-within (r ∷ rs) (n ∷ ns) zero e h l = between-reads (r .low) (r .high) n .0 (and-reads (between (r .low) (r .high) n) (allWithin rs ns) .0 e .0)
-field-within (r ∷ rs) (n ∷ ns) (suc k) e h l =
-    field-within rs ns k (and-reads (between (r .low) (r .high) n) (allWithin rs ns) .0 e .1) (omega arith) (omega arith)
-
--- this for the fields of an item, and for those of a stack
-item-within : (a : Item) → Meets itemLine a → (k : ℕ) → k < 16 → Within (getD (itemRanges a) k (0 to 0)) (getD a k 0)
-item-within a h k l = field-within (itemRanges a) a k (h .fits) l (omega (arith, h .least))
-
-stack-within : (trucks : ℕ) (taken ns : List ℕ) → Meets (stackLine trucks taken) ns → (k : ℕ) → k < 6
-    → Within (getD (stackRanges trucks) k (0 to 0)) (getD ns k 0)
-stack-within trucks taken ns h k l =
-    let e = and-reads (allWithin (stackRanges trucks) ns) (not (listed (stackNumber ns) taken)) .0 (h .fits) in
-    field-within (stackRanges trucks) ns k (e .0) l (omega (arith, h .least))
-
 -- a range that leaves two values, as an orientation has
 one-or-two : (n : ℕ) → Within (1 to 2) n → (n ≡ 1) ⊎ (n ≡ 2)
 one-or-two n h = ⊎-elim (λ e. inl (sym e)) (λ l. inr (omega (arith, h, l))) (eq-or-lt-of-le (h .0))

@@ -7,11 +7,10 @@ use Prim.Native.Nat.{ℕ, _≤_, _<_}
 use native.Mathlib.Omega.{arith}
 use borrow.Author.Tests.{lt-ltb, le-ltb, ltb-true, ltb-false}
 use lib.Dec.{ltb}
-use lib.ListN.{length, take, drop, replicate, length-append, length-drop, length-replicate}
+use lib.ListN.{length, take, drop, length-append, length-drop, length-replicate}
 use lib.Seq.{take-at, drop-at}
 use Rattle.meaning.specs.declared.Limits.{Limits}
 use Rattle.meaning.specs.declared.Place.{Place}
-use Rattle.meaning.specs.declared.Answer.{Answer}
 use Rattle.meaning.specs.Limits.{named}
 use Rattle.meaning.specs.Reader.{Outcome, found, wrongForm, outOfRange, wholeFile}
 use Rattle.meaning.specs.Model.{Instance, Stack}
@@ -19,7 +18,7 @@ use Rattle.meaning.specs.Files.{instanceLines, planLines}
 use Rattle.meaning.specs.Places.{place, lowest}
 use Rattle.meaning.specs.Verdict.{refusal}
 use Rattle.meaning.specs.Check.{Reading, refused, readable, refusedAt, afterPlan, afterClash, afterInstance, codeClashes, readFiles, namedAfter, tableAfter}
-use Rattle.meaning.specs.Claims.{Readable, Decoded, TableKept, TableAfter, RefusedReading, ReadRefused}
+use Rattle.meaning.specs.Claims.{TableAfter, RefusedReading, ReadRefused}
 use Rattle.meaning.proofs.Decode.{decodes}
 use Rattle.meaning.proofs.Ranges.{read-fits}
 

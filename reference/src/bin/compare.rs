@@ -2,22 +2,25 @@
 //! theorem that the definition computes to the reference's result, proved by reflexivity in a crate under `target/`.
 //!
 //! Compared are the answer of every case, the part that is handed back for every unreadable file, and the whole table
-//! afterwards for the first cases.
+//! afterwards for the first cases. A short table and files of the most bytes and one more are added to the cases.
 
-use reference::{bad_line, check, Answer};
+use reference::table::NAMED_WORDS;
+use reference::{bad_line, check, Answer, MOST_BYTES};
 use std::collections::{BTreeMap, BTreeSet};
 use std::fmt::Write;
 use std::path::{Path, PathBuf};
 use std::process::{Command, ExitCode};
 
-const USAGE: &str = "usage: compare DIR [--tables COUNT] [--words COUNT]
+const USAGE: &str = "usage: compare DIR [--tables COUNT]
   DIR            cases as `cases` writes them
   --tables COUNT compare the whole table too, for the first COUNT cases (default 20)
-  --words COUNT  words of the table (default 8976)
 Run it in the repository's folder.";
 
 /// Theorems to a module: the kernel takes a module at a time.
 const PER_MODULE: usize = 50;
+
+/// Runs of one byte from here on are told by their length.
+const LONG_RUN: usize = 64;
 
 /// What the table holds before the check, so that an untouched word shows.
 const BEFORE: u32 = 7;
@@ -35,7 +38,6 @@ use Rattle.meaning.specs.BadLine.{handedBack, partBytes}
 struct Order {
     folder: PathBuf,
     tables: usize,
-    words: usize,
 }
 
 struct Case {
@@ -44,6 +46,20 @@ struct Case {
     plan: Vec<u8>,
     answer: Answer,
     table: Vec<u32>,
+}
+
+impl Case {
+    fn new(name: &str, instance: Vec<u8>, plan: Vec<u8>, words: usize) -> Self {
+        let mut table = vec![BEFORE; words];
+        let answer = check(&instance, &plan, &mut table);
+        Case {
+            name: name.to_string(),
+            instance,
+            plan,
+            answer,
+            table,
+        }
+    }
 }
 
 fn main() -> ExitCode {
@@ -66,13 +82,11 @@ fn parse(arguments: &[String]) -> Option<Order> {
     let mut order = Order {
         folder: PathBuf::from(arguments.first()?),
         tables: 20,
-        words: reference::table::NAMED_WORDS,
     };
     for option in arguments[1..].chunks(2) {
         let count = option.get(1)?.parse().ok()?;
         match option[0].as_str() {
             "--tables" => order.tables = count,
-            "--words" => order.words = count,
             _ => return None,
         }
     }
@@ -116,18 +130,40 @@ fn read_cases(order: &Order) -> Result<Vec<Case>, String> {
         let file = |kind: &str| {
             std::fs::read(order.folder.join(format!("{name}.{kind}"))).map_err(|error| format!("{name}: {error}"))
         };
-        let (instance, plan) = (file("instance")?, file("plan")?);
-        let mut table = vec![BEFORE; order.words];
-        let answer = check(&instance, &plan, &mut table);
-        cases.push(Case {
-            name: name.to_string(),
-            instance,
-            plan,
-            answer,
-            table,
-        });
+        cases.push(Case::new(name, file("instance")?, file("plan")?, NAMED_WORDS));
     }
+    let extremes = cases.first().map(extremes).unwrap_or_default();
+    cases.extend(extremes);
     Ok(cases)
+}
+
+/// A short table, and files at the most bytes that are read and one beyond, from the files of one case.
+fn extremes(case: &Case) -> Vec<Case> {
+    let stretched = |file: &[u8], length: usize| {
+        let mut longer = file.to_vec();
+        longer.resize(length, b'9');
+        longer
+    };
+    let (instance, plan) = (&case.instance, &case.plan);
+    let long = stretched(plan, MOST_BYTES);
+    let overlong = stretched(plan, MOST_BYTES + 1);
+    vec![
+        Case::new("short-table", instance.clone(), plan.clone(), NAMED_WORDS - 1),
+        Case::new(
+            "longest-instance",
+            stretched(instance, MOST_BYTES),
+            plan.clone(),
+            NAMED_WORDS,
+        ),
+        Case::new(
+            "overlong-instance",
+            stretched(instance, MOST_BYTES + 1),
+            overlong.clone(),
+            NAMED_WORDS,
+        ),
+        Case::new("longest-plan", instance.clone(), long, NAMED_WORDS),
+        Case::new("overlong-plan", instance.clone(), overlong, NAMED_WORDS),
+    ]
 }
 
 /// The definitions alone, without their proofs: a change of a definition can be tried before the proofs follow.
@@ -195,7 +231,7 @@ pub answer-{index} : answer small {} instance-{index} plan-{index} ≡ {record}
 unfolding answer
 answer-{index} = refl
 ",
-        order.words
+        case.table.len()
     );
     if matches!(number, 4 | 5 | 7 | 8) {
         let part = literal(bad_line(&case.instance, &case.plan, number, first));
@@ -215,21 +251,30 @@ pub table-{index} : tableAfter small (replicate {} {BEFORE}) instance-{index} pl
 unfolding tableAfter
 table-{index} = refl
 ",
-            order.words
+            case.table.len()
         );
     }
     text
 }
 
-/// Bytes as a term: strings where they are plain ASCII, numbers elsewhere.
+/// Bytes as a term: strings where they are plain ASCII, numbers elsewhere, long runs of one byte by their length.
 fn literal(bytes: &[u8]) -> String {
     let plain = |byte: u8| byte == b'\n' || (byte.is_ascii_graphic() || byte == b' ') && byte != b'"' && byte != b'\\';
     let mut parts = Vec::new();
     let mut at = 0;
     while at < bytes.len() {
+        let run = run_length(&bytes[at..]);
+        if run >= LONG_RUN {
+            parts.push(format!("replicate {run} {}", bytes[at]));
+            at += run;
+            continue;
+        }
         let kind = plain(bytes[at]);
-        let length = bytes[at..].iter().take_while(|&&byte| plain(byte) == kind).count();
-        let part = &bytes[at..at + length];
+        let mut end = at;
+        while end < bytes.len() && plain(bytes[end]) == kind && run_length(&bytes[end..]) < LONG_RUN {
+            end += 1;
+        }
+        let part = &bytes[at..end];
         parts.push(if kind {
             format!("bytes \"{}\"", String::from_utf8_lossy(part).replace('\n', "\\n"))
         } else {
@@ -238,9 +283,14 @@ fn literal(bytes: &[u8]) -> String {
                 part.iter().map(u8::to_string).collect::<Vec<_>>().join(" ∷ ")
             )
         });
-        at += length;
+        at = end;
     }
     joined(parts)
+}
+
+/// How often the first value stands at the front.
+fn run_length<T: PartialEq>(values: &[T]) -> usize {
+    values.iter().take_while(|&value| *value == values[0]).count()
 }
 
 /// Words as a term: runs of one value are told by their length.
@@ -248,9 +298,9 @@ fn runs(words: &[u32]) -> String {
     let mut parts = Vec::new();
     let mut at = 0;
     while at < words.len() {
-        let length = words[at..].iter().take_while(|&&word| word == words[at]).count();
-        parts.push(format!("replicate {length} {}", words[at]));
-        at += length;
+        let run = run_length(&words[at..]);
+        parts.push(format!("replicate {run} {}", words[at]));
+        at += run;
     }
     joined(parts)
 }

@@ -1,0 +1,38 @@
+-- Each field of a line that was read lies in its range.
+use mathlib.Core.Path.{_≡_}
+use mathlib.Core.Bool.{true, not}
+use mathlib.Core.List.{List, [], _∷_}
+use Prim.Native.Nat.{ℕ, zero, suc, _≤_, _<_}
+use native.Mathlib.Omega.{arith}
+use lib.ListN.{length, getD}
+use Rattle.meaning.specs.Lists.{between, listed}
+use Rattle.meaning.specs.Model.{Item, stackNumber}
+use Rattle.meaning.specs.Files.{Range, _to_, allWithin, itemRanges, itemLine, truckRanges, truckLine, stackRanges, stackLine}
+use Rattle.meaning.specs.InRange.{Meets}
+use Rattle.meaning.proofs.Tests.{and-reads, between-reads}
+
+-- a number lies in a range
+abbrev pub Within : Range → ℕ → Type 0
+Within r n = (r .low ≤ n) × (n ≤ r .high)
+
+-- the field at a place lies in the range at that place
+pub field-within : (rs : List Range) (ns : List ℕ) (k : ℕ) → allWithin rs ns ≡ true → k < length rs → k < length ns → Within (getD rs k (0 to 0)) (getD ns k 0)
+unfolding allWithin
+field-within [] ns k e h l = absurd (omega arith)
+field-within (r ∷ rs) [] k e h l = absurd (omega arith)
+field-within (r ∷ rs) (n ∷ ns) zero e h l = between-reads (r .low) (r .high) n .0 (and-reads (between (r .low) (r .high) n) (allWithin rs ns) .0 e .0)
+field-within (r ∷ rs) (n ∷ ns) (suc k) e h l =
+    field-within rs ns k (and-reads (between (r .low) (r .high) n) (allWithin rs ns) .0 e .1) (omega arith) (omega arith)
+
+-- so does each field of an item, of a truck and of a stack
+pub item-within : (a : Item) → Meets itemLine a → (k : ℕ) → k < 16 → Within (getD (itemRanges a) k (0 to 0)) (getD a k 0)
+item-within a h k l = field-within (itemRanges a) a k (h .fits) l (omega (arith, h .least))
+
+pub truck-within : (ns : List ℕ) → Meets truckLine ns → (k : ℕ) → k < 20 → Within (getD truckRanges k (0 to 0)) (getD ns k 0)
+truck-within ns h k l = field-within truckRanges ns k (h .fits) l (omega (arith, h .least))
+
+pub stack-within : (trucks : ℕ) (taken ns : List ℕ) → Meets (stackLine trucks taken) ns → (k : ℕ) → k < 6
+    → Within (getD (stackRanges trucks) k (0 to 0)) (getD ns k 0)
+stack-within trucks taken ns h k l =
+    let e = and-reads (allWithin (stackRanges trucks) ns) (not (listed (stackNumber ns) taken)) .0 (h .fits) in
+    field-within (stackRanges trucks) ns k (e .0) l (omega (arith, h .least))

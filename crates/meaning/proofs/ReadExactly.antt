@@ -1,0 +1,229 @@
+-- Two files are read as a model exactly when they are that model written out, in range, without a code clash and short enough.
+use mathlib.Core.Path.{_≡_, refl, sym, ap, _∙_}
+use mathlib.Core.Bool.{true, not}
+use mathlib.Core.List.{List, [], _∷_, _++_, map, flatMap, append-assoc, append-nil}
+use Prim.Native.Nat.{ℕ, suc, _+_, _≤_}
+use Prim.Native.String.{String}
+use native.Mathlib.Omega.{arith}
+use lib.Dec.{leb}
+use lib.ListN.{length, getD}
+use Rattle.meaning.specs.declared.Limits.{Limits}
+use Rattle.meaning.specs.Lists.{Every, any, all, between, listed, distinct}
+use Rattle.meaning.specs.Limits.{small}
+use Rattle.meaning.specs.Text.{Form, bytes}
+use Rattle.meaning.specs.Reader.{found, Reader, give, onward, _>>=_, line, times}
+use Rattle.meaning.specs.Model.{Instance, Truck, Stack, IL, IH, number, stackNumber}
+use Rattle.meaning.specs.Files.{Range, _to_, allWithin, rowLine, identifiersLine, numberLine, truckLines, instanceLines, stackLines, planLines}
+use Rattle.meaning.specs.Files.{itemRanges, itemLine, truckRanges, truckLine, stackRanges, stackLine, loadLine}
+use Rattle.meaning.specs.Reorder.{ended, OneLine, pairBytes, planOf}
+use Rattle.meaning.specs.Print.{printedLine, printedTruck, printedInstance, printedStack, printedPlan}
+use Rattle.meaning.specs.InRange.{Meets, TruckInRange, InstanceInRange, StacksInRange, InRange}
+use Rattle.meaning.specs.Claims.{Readable, TenDigitLimits, ReadExactly}
+use Rattle.meaning.proofs.Tests.{and-reads, between-reads}
+use Rattle.meaning.proofs.Lists.{all-reads, every-reads, every-map}
+use Rattle.meaning.proofs.Fields.{item-within}
+use Rattle.meaning.proofs.Outcomes.{Finds, finds-ended}
+use Rattle.meaning.proofs.ReadFiles.{Wholly, read-reads}
+use Rattle.meaning.proofs.Printed.{read-printed}
+use Rattle.meaning.proofs.Ranges.{read-in-range}
+use Rattle.meaning.proofs.ReadBack.{line-one, TenDigits, line-read}
+
+-- ---- entries in range have at most ten digits
+-- the first number is at most the upper end of its range, and the others are in theirs
+within-front : (r : Range) (rs : List Range) (n : ℕ) (ns : List ℕ) → allWithin (r ∷ rs) (n ∷ ns) ≡ true → (n ≤ r .high) × (allWithin rs ns ≡ true)
+unfolding allWithin
+within-front r rs n ns h =
+    let t = and-reads (between (r .low) (r .high) n) (allWithin rs ns) .0 h in (between-reads (r .low) (r .high) n .0 (t .0) .1, t .1)
+
+-- every upper end has at most ten digits
+abbrev TenDigitEnds : List Range → Type 0
+TenDigitEnds rs = Every (λ (r : Range). TenDigits (r .high)) rs
+
+-- then so has every number, where each has a range of its own, and where all have one
+within-ten : (rs : List Range) (ns : List ℕ) → TenDigitEnds rs → length ns ≤ length rs → allWithin rs ns ≡ true → Every TenDigits ns
+within-ten rs [] e l h = tt
+within-ten [] (n ∷ ns) e l h = absurd (omega arith)
+within-ten (r ∷ rs) (n ∷ ns) e l h = let t = within-front r rs n ns h in (omega (arith, t .0, e .0), within-ten rs ns (e .1) (omega arith) (t .1))
+
+all-ten : (low high : ℕ) (ns : List ℕ) → TenDigits high → all (between low high) ns ≡ true → Every TenDigits ns
+all-ten low high ns e h =
+    every-reads TenDigits ns .1 (λ n i. omega (arith, between-reads low high n .0 (all-reads (between low high) ns .0 h n i) .1))
+
+-- ---- forms whose lines are read back
+-- the key has no byte 10, and a line has entries, of at most ten digits
+record Plain (f : Form) : Type 0 where
+  oneLine : OneLine (bytes (f .key))
+  entries : 1 ≤ f .least
+  digits : (ns : List ℕ) → Meets f ns → Every TenDigits ns
+
+-- lines with a range for each entry, and lines of identifiers
+plain-row : (key : String) (rs : List Range) → OneLine (bytes key) → 1 ≤ length rs → TenDigitEnds rs → Plain (rowLine key rs)
+plain-row key rs o l e = record { oneLine = o; entries = l; digits = λ ns h. within-ten rs ns e (h .most) (h .fits) }
+
+plain-identifiers : (key : String) (most : ℕ) → OneLine (bytes key) → Plain (identifiersLine key most)
+plain-identifiers key most o =
+    record {
+      oneLine = o;
+      entries = omega arith;
+      digits = λ ns h. all-ten 1 65535 ns (omega arith) (and-reads (all (between 1 65535) ns) (distinct ns) .0 (h .fits) .0);
+    }
+
+-- an item's width ends at its length, and its nesting height below its height: these two are in range themselves
+plain-item : Plain itemLine
+unfolding any
+plain-item = record { oneLine = refl; entries = omega arith; digits = ten }
+  where
+    ten : (a : List ℕ) → Meets itemLine a → Every TenDigits a
+    ten a h =
+        let long : IL a ≤ 20000 = item-within a h 0 (omega arith) .1 in
+        let high : IH a ≤ 20000 = item-within a h 2 (omega arith) .1 in
+        within-ten (itemRanges a) a (omega arith) (h .most) (h .fits)
+
+plain-truck : Plain truckLine
+unfolding any
+plain-truck = plain-row "truck=" truckRanges refl (omega arith) (omega arith)
+
+-- a stack's truck and the items of a load are at most as many as there are
+plain-stack : (trucks : ℕ) (taken : List ℕ) → TenDigits trucks → Plain (stackLine trucks taken)
+unfolding any
+plain-stack trucks taken e =
+    record {
+      oneLine = refl;
+      entries = omega arith;
+      digits =
+          λ ns h.
+          within-ten (stackRanges trucks) ns (omega arith) (h .most)
+          (and-reads (allWithin (stackRanges trucks) ns) (not (listed (stackNumber ns) taken)) .0 (h .fits) .0);
+    }
+
+plain-load : (most items held : ℕ) → TenDigits items → Plain (loadLine most items held)
+unfolding any
+plain-load most items held e =
+    record {
+      oneLine = refl;
+      entries = omega arith;
+      digits = λ ns h. all-ten 1 items ns e (and-reads (all (between 1 items) ns) (leb (held + length ns) most) .0 (h .fits) .0);
+    }
+
+-- ---- what a reader finds in a text
+-- from line n on, r finds a in the text, whatever bytes follow, and leaves those and the line number `after n`
+record Reads {A : Type 0} (a : A) (text : List ℕ) (r : Reader A) : Type 0 where
+  after : ℕ → ℕ
+  reads : (n : ℕ) (rest : List ℕ) → r n (text ++ rest) ≡ found a (after n) rest
+
+-- a value without reading
+reads-none : {A : Type 0} (a : A) → Reads a [] (give a)
+reads-none a = record { after = λ n. n; reads = λ n rest. refl }
+
+module _ {A B : Type 0} {b : B} {run : List ℕ} {r : Reader B} where
+  -- first r, and then what comes next, in the text behind
+  reads-then : {a : A} {text : List ℕ} (next : B → Reader A) → Reads b run r → Reads a text (next b) → Reads a (run ++ text) (r >>= next)
+  unfolding onward
+  reads-then {text = text} next h k =
+      record { after = λ n. k .after (h .after n); reads = λ n rest. rw (append-assoc, h .reads n (text ++ rest)) (k .reads (h .after n) rest) }
+
+  -- the last reader, whose value completes the whole
+  reads-last : (f : B → A) → Reads b run r → Reads (f b) run (r >>= (λ c. give (f c)))
+  unfolding onward
+  reads-last f h = record { after = h .after; reads = λ n rest. rw (h .reads n rest) }
+
+-- a line, where its numbers are written out
+reads-line : {f : Form} {ns : List ℕ} → Plain f → Meets f ns → Reads ns (ended (printedLine (f .key) ns)) (line f)
+reads-line {f} {ns} s h =
+    let back = line-read (f .key) ns (omega (arith, s .entries, h .least)) (s .digits ns h) in
+    record { after = suc; reads = λ n rest. finds-ended f (printedLine (f .key) ns) rest n ns (line-one (f .key) ns (s .oneLine)) back h }
+
+-- a line with one number
+reads-number : (key : String) (r : Range) (v : ℕ) → OneLine (bytes key) → TenDigits (r .high) → r .low ≤ v → v ≤ r .high
+    → Reads v (ended (printedLine key (v ∷ []))) (numberLine key r)
+unfolding numberLine allWithin
+reads-number key r v o e low high =
+    let fits = and-reads (between (r .low) (r .high) v) true .1 (between-reads (r .low) (r .high) v .1 (low, high), refl) in
+    let s = plain-row key (r ∷ []) o (omega arith) (e, tt) in
+    reads-last (λ ns. getD ns 0 0) (reads-line s (record { least = omega arith; most = omega arith; fits = fits }))
+
+-- as many values as there are texts, and so for lines of one form
+reads-times : {A : Type 0} (text : A → List ℕ) (r : Reader A) (l : List A) → Every (λ a. Reads a (text a) r) l → Reads l (flatMap text l) (times (length l) r)
+unfolding times flatMap
+reads-times text r [] h = reads-none []
+reads-times text r (a ∷ l) h = reads-then _ (h .0) (reads-last (λ rest. a ∷ rest) (reads-times text r l (h .1)))
+
+reads-lines : {f : Form} (l : List (List ℕ)) → Plain f → Every (Meets f) l
+    → Reads l (flatMap (λ ns. ended (printedLine (f .key) ns)) l) (times (length l) (line f))
+reads-lines {f} l s h = reads-times _ (line f) l (every-map (Meets f) _ (λ ns k. reads-line s k) l h)
+
+-- ---- the instance: the walks go through the lines as the readers do
+reads-truck : (t : Truck) → TruckInRange t → Reads t (printedTruck t) truckLines
+unfolding truckLines printedTruck any
+reads-truck t h =
+    reads-then _ (reads-line plain-truck (h .fields))
+    (reads-then _ (reads-line (plain-identifiers "products=" 32 refl) (h .products))
+    (reads-then _ (reads-line (plain-identifiers "suppliers=" 8 refl) (h .suppliers))
+    (reads-then _ (rw (h .dockLines) at (reads-lines (t .docks) (plain-identifiers "docks=" 8 refl) (h .docks)))
+    (reads-last _ (reads-line (plain-identifiers "plantdocks=" 8 refl) (h .plantDocks))))))
+
+reads-instance : (m : Limits) → TenDigitLimits m → (i : Instance) → InstanceInRange m i → Reads i (printedInstance i) (instanceLines m)
+unfolding instanceLines printedInstance any
+reads-instance m few i h =
+    reads-then _ (reads-number "transport=" (0 to 1000) (i .αT) refl (omega arith) (omega arith) (h .αT))
+    (reads-then _ (reads-number "inventory=" (0 to 1000) (i .αI) refl (omega arith) (omega arith) (h .αI))
+    (reads-then _ (reads-number "extra=" (0 to 1000) (i .αE) refl (omega arith) (omega arith) (h .αE))
+    (reads-then _ (reads-number "items=" (1 to m .items) (length (i .items)) refl (few .items) (h .someItem) (h .itemCount))
+    (reads-then _ (reads-number "trucks=" (1 to m .trucks) (length (i .trucks)) refl (few .trucks) (h .someTruck) (h .truckCount))
+    (reads-then _ (reads-lines (i .items) plain-item (h .items))
+    (reads-last _ (reads-times printedTruck truckLines (i .trucks) (every-map TruckInRange _ reads-truck (i .trucks) (h .trucks)))))))))
+
+-- ---- the plan
+module _ (most items trucks : ℕ) (fewItems : TenDigits items) (fewTrucks : TenDigits trucks) where
+  reads-stacks : (taken : List ℕ) (held : ℕ) (p : List Stack) → StacksInRange most items trucks taken held p
+      → Reads p (flatMap pairBytes (map printedStack p)) (stackLines most items trucks (length p) taken held)
+  unfolding stackLines flatMap
+  reads-stacks taken held [] h = reads-none []
+  reads-stacks taken held (s ∷ p) h =
+      rw (append-assoc (ended (printedLine "stack=" (s .fields))) (ended (printedLine "load=" (s .load))) (flatMap pairBytes (map printedStack p)))
+      (reads-then _ (reads-line (plain-stack trucks taken fewTrucks) (h .0))
+      (reads-then _ (reads-line (plain-load most items held fewItems) (h .1))
+      (reads-last (λ rest. s ∷ rest) (reads-stacks (number s ∷ taken) (held + length (s .load)) p (h .2)))))
+
+reads-plan : (m : Limits) → TenDigitLimits m → (i : Instance) (p : List Stack) → InRange m i p → Reads p (printedPlan p) (planLines m i)
+unfolding planLines printedPlan planOf any
+reads-plan m few i p h =
+    let items = length (i .items) in
+    let trucks = length (i .trucks) in
+    let fewItems : TenDigits items = omega (arith, few .items, h .instance .itemCount) in
+    let fewTrucks : TenDigits trucks = omega (arith, few .trucks, h .instance .truckCount) in
+    reads-then _ (reads-number "stacks=" (0 to m .stacks) (length p) refl (few .stacks) (omega arith) (h .stackCount))
+    (reads-stacks (m .loads) items trucks fewItems fewTrucks [] 0 p (h .stacks))
+
+-- ---- both files
+-- in a file that is the text alone, nothing is left
+reads-wholly : {A : Type 0} (a : A) (text bs : List ℕ) (r : Reader A) → bs ≡ text → Reads a text r → Finds (Wholly a) (r 1 bs)
+reads-wholly a text bs r e h = rw (ap (r 1) (e ∙ sym (append-nil text)) ∙ h .reads 1 []) (refl, refl)
+
+-- what is read is legible by the laws of reading, and what is legible is read since the readers find it
+pub read-exactly : (m : Limits) → ReadExactly m
+read-exactly m few instance plan i p =
+    let steps = read-reads m instance plan i p in (
+      (λ e.
+          let r : Readable m instance plan = record { says = i; stacks = p; read = e } in
+          let h = steps .0 e in
+          record {
+            printed = read-printed m instance plan r;
+            inRange = read-in-range m instance plan r;
+            noClash = h .noClash;
+            instanceBytes = h .shortInstance;
+            planBytes = h .shortPlan;
+          }),
+      (λ h.
+          steps .1 (record {
+            shortInstance = h .instanceBytes;
+            shortPlan = h .planBytes;
+            says = reads-wholly i (printedInstance i) instance (instanceLines m) (h .printed .says) (reads-instance m few i (h .inRange .instance));
+            noClash = h .noClash;
+            stacks = reads-wholly p (printedPlan p) plan (planLines m i) (h .printed .stacks) (reads-plan m few i p (h .inRange));
+          })),
+    )
+
+-- the limits of document 01 are such
+pub small-ten-digits : TenDigitLimits small
+small-ten-digits = record { items = omega arith; trucks = omega arith; stacks = omega arith }

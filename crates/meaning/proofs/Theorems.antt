@@ -1,0 +1,30 @@
+-- All theorems that Claims states, for every limits.
+use Rattle.meaning.specs.declared.Limits.{Limits}
+use Rattle.meaning.specs.Claims.{Theorems}
+use Rattle.meaning.proofs.Lowest.{lowest-is}
+use Rattle.meaning.proofs.Accepted.{accepted-exactly, refused-exactly}
+use Rattle.meaning.proofs.Ranges.{read-in-range, read-fits}
+use Rattle.meaning.proofs.Printed.{read-printed}
+use Rattle.meaning.proofs.ReadExactly.{read-exactly}
+use Rattle.meaning.proofs.Decode.{decodes}
+use Rattle.meaning.proofs.TableAfter.{table-after, read-refused}
+use Rattle.meaning.proofs.Picture.{accepted-when-feasible}
+use Rattle.meaning.proofs.AnyOrder.{order-free, any-order}
+
+pub theorems : (m : Limits) → Theorems m
+theorems m =
+    record {
+      lowestPlace = lowest-is;
+      acceptedExactly = accepted-exactly;
+      refusedExactly = refused-exactly;
+      readInRange = read-in-range m;
+      readFits = read-fits m;
+      readPrinted = read-printed m;
+      readExactly = read-exactly m;
+      readRefused = read-refused m;
+      decodes = decodes m;
+      tableAfter = table-after m;
+      acceptedWhenFeasible = accepted-when-feasible m;
+      orderFree = order-free m;
+      anyOrder = any-order m;
+    }
