@@ -1,3 +1,4 @@
+pub mod Answers
 pub mod Tests
 pub mod Lists
 pub mod Orders

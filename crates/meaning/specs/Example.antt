@@ -1,5 +1,5 @@
--- Document 01, "One load from end to end": the printed load with its ten edits, as one statement, and H.
-use mathlib.Core.Path.{_≡_, refl}
+-- Document 01, "One load from end to end": the printed load with its ten edits, their shared statement, and H.
+use mathlib.Core.Path.{_≡_}
 use mathlib.Core.List.{List, [], _∷_, _++_, map}
 use Prim.Native.Nat.{ℕ, _-_}
 use Prim.Native.String.{String}
@@ -12,7 +12,7 @@ use Rattle.meaning.specs.Places.{place}
 use Rattle.meaning.specs.Model.{truckNumbered}
 use Rattle.meaning.specs.Measures.{H}
 use Rattle.meaning.specs.Verdict.{acceptance, refusal}
-use Rattle.meaning.specs.Check.{Reading, refused, readable, readFiles, answer}
+use Rattle.meaning.specs.Check.{Reading, refused, readable, answer}
 use Rattle.meaning.specs.Reorder.{ended}
 use Rattle.meaning.specs.Print.{commaJoined}
 
@@ -87,61 +87,56 @@ planEdit e a = record { toInstance = []; toPlan = e ∷ []; expected = a }
 abbrev pub answered : Lines → Lines → Case → Answer
 answered instance plan c = answer small (named small) (fileOf (editedBy (c .toInstance) instance)) (fileOf (editedBy (c .toPlan) plan))
 
+-- each case has the answer that it expects: the statement that all lists of cases share
+abbrev pub AsExpected : Lines → Lines → List Case → Type 0
+AsExpected instance plan cases = map (answered instance plan) cases ≡ map (λ (c : Case). c .expected) cases
+
 -- a refusal by its number and places
 abbrev pub refusedWith : ℕ → ℕ → ℕ → ℕ → Answer
 refusedWith n a b c = refusal n (place a b c)
 
 -- entries of the truck's line, line 8 of the instance, and of the stack's, line 2 of the plan: height of the truck
-abbrev pub TH-entry : String → Edit
-TH-entry v = entry 8 3 v
+abbrev pub TH-is : String → Edit
+TH-is v = entry 8 3 v
 
 -- density limit
-abbrev pub TEM-entry : String → Edit
-TEM-entry v = entry 8 9 v
+abbrev pub TEM-is : String → Edit
+TEM-is v = entry 8 9 v
 
 -- limit of the rear axle
-abbrev pub EMmr-entry : String → Edit
-EMmr-entry v = entry 8 19 v
+abbrev pub EMmr-is : String → Edit
+EMmr-is v = entry 8 19 v
 
 -- limit of the middle axle
-abbrev pub EMmm-entry : String → Edit
-EMmm-entry v = entry 8 20 v
+abbrev pub EMmm-is : String → Edit
+EMmm-is v = entry 8 20 v
 
 -- copy of the stack
-abbrev pub copy-entry : String → Edit
-copy-entry v = entry 2 3 v
+abbrev pub copy-is : String → Edit
+copy-is v = entry 2 3 v
 
 -- x of the stack
-abbrev pub x-entry : String → Edit
-x-entry v = entry 2 4 v
+abbrev pub x-is : String → Edit
+x-is v = entry 2 4 v
 
--- the printed load, and "ten edits"
+-- the printed load, and "Proved as a block, ten edits" (proofs/Answers: ten-edits)
 abbrev pub tenEdits : List Case
 tenEdits =
     record { toInstance = []; toPlan = []; expected = acceptance 248000 1 }
-    ∷ planEdit (copy-entry "1") (acceptance 288000 1)
-    ∷ instanceEdit (EMmm-entry "4480") (acceptance 248000 1)
-    ∷ instanceEdit (EMmm-entry "4479") (refusedWith 27 1 0 1)
-    ∷ instanceEdit (EMmr-entry "4559") (acceptance 248000 1)
-    ∷ instanceEdit (EMmr-entry "4558") (refusedWith 28 1 0 1)
-    ∷ instanceEdit (TEM-entry "938") (acceptance 248000 1)
-    ∷ instanceEdit (TEM-entry "937") (refusedWith 21 1 900 0)
-    ∷ instanceEdit (TH-entry "1899") (refusedWith 22 1 3 0)
-    ∷ planEdit (x-entry "1") (refusedWith 24 1 0 0)
+    ∷ planEdit (copy-is "1") (acceptance 288000 1)
+    ∷ instanceEdit (EMmm-is "4480") (acceptance 248000 1)
+    ∷ instanceEdit (EMmm-is "4479") (refusedWith 27 1 0 1)
+    ∷ instanceEdit (EMmr-is "4559") (acceptance 248000 1)
+    ∷ instanceEdit (EMmr-is "4558") (refusedWith 28 1 0 1)
+    ∷ instanceEdit (TEM-is "938") (acceptance 248000 1)
+    ∷ instanceEdit (TEM-is "937") (refusedWith 21 1 900 0)
+    ∷ instanceEdit (TH-is "1899") (refusedWith 22 1 3 0)
+    ∷ planEdit (x-is "1") (refusedWith 24 1 0 0)
     ∷ planEdit (line 3 "load=1") (refusedWith 9 2 0 0)
     ∷ []
 
--- "Proved as a block, ten edits"
-pub ten-edits : map (answered printedLoad printedStacks) tenEdits ≡ map (λ (c : Case). c .expected) tenEdits
-unfolding answer commaParts commaJoined
-ten-edits = refl
-
--- ---- "H is 50,120,000"
+-- ---- "H is 50,120,000" (proofs/Answers: H-printed)
+-- H of the plan that was read, on truck 1
 abbrev pub HofReading : Reading → ℤ
 HofReading (refused a) = pos 0
 HofReading (readable i p) = H i (truckNumbered i 1) p
-
--- H of the printed load
-pub H-printed : HofReading (readFiles small (fileOf printedLoad) (fileOf printedStacks)) ≡ pos 50120000
-unfolding readFiles H
-H-printed = refl

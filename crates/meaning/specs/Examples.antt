@@ -1,22 +1,14 @@
--- Worked examples beside the ten edits: document 01's "Errors to shut out", and the readings of the paper that it settles. Each list of
--- cases is one statement.
-use mathlib.Core.Path.{_≡_, refl}
+-- Worked examples beside the ten edits: document 01's "Errors to shut out", and the readings of the paper that it settles. Their answers
+-- are computed in proofs/Answers.
 use mathlib.Core.List.{List, [], _∷_, _++_, map}
 use Prim.Native.Nat.{ℕ}
 use Prim.Native.String.{String}
-use lib.ListN.{getD, replicate}
+use lib.ListN.{getD}
 use Rattle.meaning.specs.declared.Answer.{Answer}
-use Rattle.meaning.specs.Limits.{small}
-use Rattle.meaning.specs.Text.{bytes, commaParts}
+use Rattle.meaning.specs.Text.{bytes}
 use Rattle.meaning.specs.Verdict.{acceptance}
-use Rattle.meaning.specs.Check.{answer, tableAfter}
-use Rattle.meaning.specs.BadLine.{Part, inInstance, inPlan, span, handedBack}
-use Rattle.meaning.specs.Print.{commaJoined}
-use Rattle.meaning.specs.Example.{Lines, lines, fileOf, Edit, entry, line, Case, instanceEdit, planEdit, answered, refusedWith, printedLoad, printedStacks, TH-entry}
-
--- the answer that a case expects
-abbrev pub expected : Case → Answer
-expected c = c .expected
+use Rattle.meaning.specs.BadLine.{Part, handedBack}
+use Rattle.meaning.specs.Example.{Lines, lines, fileOf, Edit, entry, line, Case, instanceEdit, planEdit, refusedWith, printedLoad, printedStacks, TH-is, EMmr-is, EMmm-is}
 
 -- a case with several edits
 abbrev pub edits : List Edit → List Edit → Answer → Case
@@ -54,14 +46,6 @@ oneTruck = acceptance 100000 1
 -- entries of the truck's line: load limit
 abbrev pub TMm-is : String → Edit
 TMm-is v = entry 8 4 v
-
--- limit of the rear axle
-abbrev pub EMmr-is : String → Edit
-EMmr-is v = entry 8 19 v
-
--- limit of the middle axle
-abbrev pub EMmm-is : String → Edit
-EMmm-is v = entry 8 20 v
 
 -- copy of the second stack
 abbrev pub copy2 : String → Edit
@@ -105,11 +89,6 @@ weightCases =
     ∷ edits [] (copy2 "1" ∷ x2 "0" ∷ []) (acceptance 250000 2)
     ∷ []
 
--- each answer is the expected one
-pub weight-cases : map (answered twoStops twoStacks) weightCases ≡ map expected weightCases
-unfolding answer commaParts commaJoined
-weight-cases = refl
-
 -- ---- floor and contact
 abbrev pub floorCases : List Case
 floorCases =
@@ -124,11 +103,6 @@ floorCases =
     -- a wide stack, 2000 across, before a narrow one
     ∷ edits (line 6 "item=2000,1500,1000,0,1000,2,2,1,0,0,9,1,1,1,1,1" ∷ []) (line 2 "stack=1,1,0,0,0,2" ∷ y2 "500" ∷ []) oneTruck
     ∷ []
-
--- each answer is the expected one
-pub floor-cases : map (answered twoStops twoStacks) floorCases ≡ map expected floorCases
-unfolding answer commaParts commaJoined
-floor-cases = refl
 
 -- ---- loading order P4: each case as the stacks stand, and with the order turned round
 abbrev pub orderCases : List Case
@@ -146,23 +120,13 @@ orderCases =
     ∷ edits (line 7 sameSupplier ∷ []) (entry 2 4 "1500" ∷ x2 "0" ∷ []) oneTruck
     ∷ []
 
--- each answer is the expected one
-pub order-cases : map (answered twoStops twoStacks) orderCases ≡ map expected orderCases
-unfolding answer commaParts commaJoined
-order-cases = refl
-
 -- ---- heights, on the printed load: the bottom item's nesting height does not count, the top item's does
 abbrev pub heightCases : List Case
 heightCases =
-    edits (TH-entry "1900" ∷ []) [] (acceptance 248000 1)
-    ∷ edits (TH-entry "2000" ∷ []) (line 3 "load=2,1" ∷ []) (acceptance 248000 1)
-    ∷ edits (TH-entry "1999" ∷ []) (line 3 "load=2,1" ∷ []) (refusedWith 22 1 3 0)
+    edits (TH-is "1900" ∷ []) [] (acceptance 248000 1)
+    ∷ edits (TH-is "2000" ∷ []) (line 3 "load=2,1" ∷ []) (acceptance 248000 1)
+    ∷ edits (TH-is "1999" ∷ []) (line 3 "load=2,1" ∷ []) (refusedWith 22 1 3 0)
     ∷ []
-
--- each answer is the expected one
-pub height-cases : map (answered printedLoad printedStacks) heightCases ≡ map expected heightCases
-unfolding answer commaParts commaJoined
-height-cases = refl
 
 -- ---- reading, on the printed load
 abbrev pub readingCases : List Case
@@ -188,75 +152,10 @@ readingCases =
     ∷ instanceEdit (entry 7 2 "801") (refusedWith 6 2 1 0)
     ∷ []
 
--- each answer is the expected one
-pub reading-cases : map (answered printedLoad printedStacks) readingCases ≡ map expected readingCases
-unfolding answer commaParts commaJoined
-reading-cases = refl
-
--- ---- short table, overlong files, an empty plan
-pub short-table : answer small 8975 (fileOf printedLoad) (fileOf printedStacks) ≡ refusedWith 1 0 0 0
-unfolding answer
-short-table = refl
-
--- an instance of 65,536 bytes, before an overlong plan
-pub overlong-instance : answer small 8976 (replicate 65536 0) (replicate 65536 0) ≡ refusedWith 2 0 0 0
-unfolding answer
-overlong-instance = refl
-
--- a plan of 65,536 bytes, before an instance that is not in form
-pub overlong-plan : answer small 8976 (replicate 65535 0) (replicate 65536 0) ≡ refusedWith 3 0 0 0
-unfolding answer
-overlong-plan = refl
-
--- a plan without stacks leaves the first item out
-pub no-stacks : answer small 8976 (fileOf printedLoad) (fileOf (lines ("stacks=0" ∷ []))) ≡ refusedWith 9 1 0 0
-unfolding answer
-no-stacks = refl
-
--- ---- the line handed back: line 3 of the instance and of the plan; another number; a line that is not there; an unended one
+-- ---- the line handed back, with an unended line behind the printed plan
 abbrev pub handed : ℕ → ℕ → Part
 handed number n = handedBack (fileOf printedLoad) (fileOf printedStacks ++ bytes "left") number n
 
--- parts by file and place
-pub bad-lines :
-    handed 5 3 ∷ handed 8 3 ∷ handed 7 4 ∷ handed 9 3 ∷ handed 4 13 ∷ handed 7 0 ∷ []
-    ≡ record { file = inInstance; span = span 24 33 }
-    ∷ record { file = inPlan; span = span 27 35 }
-    ∷ record { file = inPlan; span = span 36 40 }
-    ∷ record { file = inInstance; span = span 291 291 }
-    ∷ record { file = inInstance; span = span 291 291 }
-    ∷ record { file = inInstance; span = span 291 291 }
-    ∷ []
-unfolding handedBack
-bad-lines = refl
-
--- ---- the table afterwards, by the places that document 01 names; 5 stood in every word before
+-- ---- words of a table by their places
 abbrev pub wordsAt : List ℕ → List ℕ → List ℕ
 wordsAt table places = map (λ n. getD table n 9) places
-
--- the printed load: head, items, the truck's lists behind their counts, the stack, the loads, the word beyond
-pub printed-table :
-    wordsAt (tableAfter small (replicate 8977 5) (fileOf printedLoad) (fileOf printedStacks)) (
-    0 ∷ 3 ∷ 5 ∷ 6 ∷ 16 ∷ 31 ∷ 35 ∷ 48 ∷ 4112 ∷ 4131 ∷ 4132 ∷ 4133 ∷ 4134 ∷ 4165 ∷ 4166 ∷ 4174 ∷ 4182 ∷ 4246 ∷ 4247 ∷ 4272
-    ∷ 6672 ∷ 6677 ∷ 6678 ∷ 6679 ∷ 6680 ∷ 8720 ∷ 8721 ∷ 8722 ∷ 8976 ∷ []
-    )
-    ≡ 2 ∷ 2 ∷ 1 ∷ 0 ∷ 1200 ∷ 4 ∷ 100 ∷ 0 ∷ 13000 ∷ 12000 ∷ 1 ∷ 1 ∷ 0 ∷ 1 ∷ 1 ∷ 1 ∷ 1 ∷ 1 ∷ 1 ∷ 0
-    ∷ 1 ∷ 1 ∷ 0 ∷ 2 ∷ 0 ∷ 1 ∷ 2 ∷ 0 ∷ 5 ∷ []
-unfolding tableAfter
-printed-table = refl
-
--- the load with two stops: the second supplier and its docks, the second stack, whose load is entry 1
-pub two-stops-table :
-    wordsAt (tableAfter small (replicate 8976 5) (fileOf twoStops) (fileOf twoStacks)) (4165 ∷ 4167 ∷ 4175 ∷ 4190 ∷ 6680 ∷ 6683 ∷ 6686 ∷ 6687 ∷ 8721 ∷ [])
-    ≡ 2 ∷ 2 ∷ 1 ∷ 1 ∷ 2 ∷ 1500 ∷ 1 ∷ 1 ∷ 2 ∷ []
-unfolding tableAfter
-two-stops-table = refl
-
--- files that cannot be read zero the named words; a short table is left
-pub refused-table : tableAfter small (replicate 8977 5) [] [] ≡ replicate 8976 0 ++ 5 ∷ []
-unfolding tableAfter
-refused-table = refl
-
-pub kept-table : tableAfter small (replicate 8975 5) (fileOf printedLoad) (fileOf printedStacks) ≡ replicate 8975 5
-unfolding tableAfter
-kept-table = refl
