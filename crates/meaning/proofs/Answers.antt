@@ -9,15 +9,15 @@ use Rattle.meaning.specs.Measures.{H}
 use Rattle.meaning.specs.Check.{readFiles, answer, tableAfter}
 use Rattle.meaning.specs.BadLine.{inInstance, inPlan, span, handedBack}
 use Rattle.meaning.specs.Print.{commaJoined}
-use Rattle.meaning.specs.Example.{lines, fileOf, AsExpected, refusedWith, printedLoad, printedStacks, tenEdits, HofReading}
-use Rattle.meaning.specs.Examples.{twoStops, twoStacks, weightCases, floorCases, orderCases, heightCases, readingCases, handed, wordsAt}
+use Rattle.meaning.specs.Example.{lines, fileOf, AsExpected, refusedWith, printedLoad, printedStacks, tenEdits, readH}
+use Rattle.meaning.specs.Examples.{twoStops, twoStacks, weightCases, floorCases, orderCases, twoDocks, twoDockStacks, dockCases, heightCases, readingCases, handed, wordsAt}
 
 -- ---- the ten edits, and H
 pub ten-edits : AsExpected printedLoad printedStacks tenEdits
 unfolding answer commaParts commaJoined
 ten-edits = refl
 
-pub H-printed : HofReading (readFiles small (fileOf printedLoad) (fileOf printedStacks)) ≡ pos 50120000
+pub H-printed : readH (readFiles small (fileOf printedLoad) (fileOf printedStacks)) ≡ pos 50120000
 unfolding readFiles H
 H-printed = refl
 
@@ -33,6 +33,10 @@ floor-cases = refl
 pub order-cases : AsExpected twoStops twoStacks orderCases
 unfolding answer commaParts commaJoined
 order-cases = refl
+
+pub dock-cases : AsExpected twoDocks twoDockStacks dockCases
+unfolding answer commaParts commaJoined
+dock-cases = refl
 
 pub height-cases : AsExpected printedLoad printedStacks heightCases
 unfolding answer commaParts commaJoined

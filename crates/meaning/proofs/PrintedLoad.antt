@@ -10,7 +10,7 @@ use Rattle.meaning.specs.Model.{Instance, Stack}
 use Rattle.meaning.specs.Check.{Reading, refused, readable, readFiles, answer}
 use Rattle.meaning.specs.Feasible.{Feasible}
 use Rattle.meaning.specs.Print.{commaJoined}
-use Rattle.meaning.specs.Example.{Lines, fileOf, edited, x-is, printedLoad, printedStacks}
+use Rattle.meaning.specs.Example.{Lines, fileOf, edited, setX, printedLoad, printedStacks}
 use Rattle.meaning.specs.Claims.{Readable}
 use Rattle.meaning.proofs.Picture.{accepted-when-feasible}
 
@@ -28,7 +28,7 @@ readAs plan = readFiles small (fileOf printedLoad) (fileOf plan)
 
 -- the plan with its stack at x = 1
 abbrev movedStacks : Lines
-movedStacks = edited (x-is "1") printedStacks
+movedStacks = edited (setX "1") printedStacks
 
 printed-read : Readable small (fileOf printedLoad) (fileOf printedStacks)
 unfolding readFiles

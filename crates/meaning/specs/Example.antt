@@ -96,47 +96,47 @@ abbrev pub refusedWith : ℕ → ℕ → ℕ → ℕ → Answer
 refusedWith n a b c = refusal n (place a b c)
 
 -- entries of the truck's line, line 8 of the instance, and of the stack's, line 2 of the plan: height of the truck
-abbrev pub TH-is : String → Edit
-TH-is v = entry 8 3 v
+abbrev pub setTH : String → Edit
+setTH v = entry 8 3 v
 
 -- density limit
-abbrev pub TEM-is : String → Edit
-TEM-is v = entry 8 9 v
+abbrev pub setTEM : String → Edit
+setTEM v = entry 8 9 v
 
 -- limit of the rear axle
-abbrev pub EMmr-is : String → Edit
-EMmr-is v = entry 8 19 v
+abbrev pub setEMmr : String → Edit
+setEMmr v = entry 8 19 v
 
 -- limit of the middle axle
-abbrev pub EMmm-is : String → Edit
-EMmm-is v = entry 8 20 v
+abbrev pub setEMmm : String → Edit
+setEMmm v = entry 8 20 v
 
 -- copy of the stack
-abbrev pub copy-is : String → Edit
-copy-is v = entry 2 3 v
+abbrev pub setCopy : String → Edit
+setCopy v = entry 2 3 v
 
 -- x of the stack
-abbrev pub x-is : String → Edit
-x-is v = entry 2 4 v
+abbrev pub setX : String → Edit
+setX v = entry 2 4 v
 
 -- the printed load, and "Proved as a block, ten edits" (proofs/Answers: ten-edits)
 abbrev pub tenEdits : List Case
 tenEdits =
     record { toInstance = []; toPlan = []; expected = acceptance 248000 1 }
-    ∷ planEdit (copy-is "1") (acceptance 288000 1)
-    ∷ instanceEdit (EMmm-is "4480") (acceptance 248000 1)
-    ∷ instanceEdit (EMmm-is "4479") (refusedWith 27 1 0 1)
-    ∷ instanceEdit (EMmr-is "4559") (acceptance 248000 1)
-    ∷ instanceEdit (EMmr-is "4558") (refusedWith 28 1 0 1)
-    ∷ instanceEdit (TEM-is "938") (acceptance 248000 1)
-    ∷ instanceEdit (TEM-is "937") (refusedWith 21 1 900 0)
-    ∷ instanceEdit (TH-is "1899") (refusedWith 22 1 3 0)
-    ∷ planEdit (x-is "1") (refusedWith 24 1 0 0)
+    ∷ planEdit (setCopy "1") (acceptance 288000 1)
+    ∷ instanceEdit (setEMmm "4480") (acceptance 248000 1)
+    ∷ instanceEdit (setEMmm "4479") (refusedWith 27 1 0 1)
+    ∷ instanceEdit (setEMmr "4559") (acceptance 248000 1)
+    ∷ instanceEdit (setEMmr "4558") (refusedWith 28 1 0 1)
+    ∷ instanceEdit (setTEM "938") (acceptance 248000 1)
+    ∷ instanceEdit (setTEM "937") (refusedWith 21 1 900 0)
+    ∷ instanceEdit (setTH "1899") (refusedWith 22 1 3 0)
+    ∷ planEdit (setX "1") (refusedWith 24 1 0 0)
     ∷ planEdit (line 3 "load=1") (refusedWith 9 2 0 0)
     ∷ []
 
 -- ---- "H is 50,120,000" (proofs/Answers: H-printed)
 -- H of the plan that was read, on truck 1
-abbrev pub HofReading : Reading → ℤ
-HofReading (refused a) = pos 0
-HofReading (readable i p) = H i (truckNumbered i 1) p
+abbrev pub readH : Reading → ℤ
+readH (refused a) = pos 0
+readH (readable i p) = H i (truckNumbered i 1) p

@@ -8,23 +8,22 @@ use Rattle.meaning.specs.declared.Answer.{Answer}
 use Rattle.meaning.specs.Text.{bytes}
 use Rattle.meaning.specs.Verdict.{acceptance}
 use Rattle.meaning.specs.BadLine.{Part, handedBack}
-use Rattle.meaning.specs.Example.{Lines, lines, fileOf, Edit, entry, line, Case, instanceEdit, planEdit, refusedWith, printedLoad, printedStacks, TH-is, EMmr-is, EMmm-is}
+use Rattle.meaning.specs.Example.{Lines, lines, fileOf, Edit, entry, line, Case, instanceEdit, planEdit, refusedWith, printedLoad, printedStacks, setTH, setEMmr, setEMmm}
 
 -- a case with several edits
 abbrev pub edits : List Edit → List Edit → Answer → Case
 edits toInstance toPlan a = record { toInstance = toInstance; toPlan = toPlan; expected = a }
 
+-- the head of an instance with one truck, and the lines after it
+abbrev pub oneTruckLoad : String → List String → Lines
+oneTruckLoad items rest = lines ("transport=1" ∷ "inventory=0" ∷ "extra=500" ∷ items ∷ "trucks=1" ∷ rest)
+
 -- ---- a load with two stops: two stacks of one item each, one behind the other, of suppliers 1 and 2. The rear axle is at 1500, so the
 -- second stack, from 1500 to 3000, is behind it. At departure 1 H is 1,500,000, at departure 2 it is 0
 abbrev pub twoStops : Lines
 twoStops =
-    lines (
-    "transport=1"
-    ∷ "inventory=0"
-    ∷ "extra=500"
-    ∷ "items=2"
-    ∷ "trucks=1"
-    ∷ "item=1500,1000,1000,0,1000,1,2,1,0,0,9,1,1,1,1,1"
+    oneTruckLoad "items=2" (
+    "item=1500,1000,1000,0,1000,1,2,1,0,0,9,1,1,1,1,1"
     ∷ "item=1500,1000,1000,0,1000,1,2,1,0,0,9,1,1,2,1,1"
     ∷ "truck=6000,2400,3000,24000,1,5,1000,0,1500,100,0,1,0,1,0,1000,0,500,2000,750"
     ∷ "products=1"
@@ -44,20 +43,20 @@ abbrev pub oneTruck : Answer
 oneTruck = acceptance 100000 1
 
 -- entries of the truck's line: load limit
-abbrev pub TMm-is : String → Edit
-TMm-is v = entry 8 4 v
+abbrev pub setTMm : String → Edit
+setTMm v = entry 8 4 v
 
 -- copy of the second stack
-abbrev pub copy2 : String → Edit
-copy2 v = entry 4 3 v
+abbrev pub setCopy2 : String → Edit
+setCopy2 v = entry 4 3 v
 
 -- its x
-abbrev pub x2 : String → Edit
-x2 v = entry 4 4 v
+abbrev pub setX2 : String → Edit
+setX2 v = entry 4 4 v
 
 -- its y
-abbrev pub y2 : String → Edit
-y2 v = entry 4 5 v
+abbrev pub setY2 : String → Edit
+setY2 v = entry 4 5 v
 
 -- the second item's line for supplier 1: like the first item
 abbrev pub sameSupplier : String
@@ -76,39 +75,40 @@ abbrev pub weightCases : List Case
 weightCases =
     edits [] [] oneTruck
     -- the load limit is met exactly, and missed by a kilogram
-    ∷ edits (TMm-is "2000" ∷ []) [] oneTruck
-    ∷ edits (TMm-is "1999" ∷ []) [] (refusedWith 26 1 0 0)
+    ∷ edits (setTMm "2000" ∷ []) [] oneTruck
+    ∷ edits (setTMm "1999" ∷ []) [] (refusedWith 26 1 0 0)
     -- the first of two departures fails and the last does not: "testing axles at the last departure only"
-    ∷ edits (EMmm-is "749" ∷ []) [] (refusedWith 27 1 0 1)
+    ∷ edits (setEMmm "749" ∷ []) [] (refusedWith 27 1 0 1)
     -- a stack behind the rear axle counts negative: with its lever positive the rear axle would bear 500
-    ∷ edits (EMmr-is "1999" ∷ []) [] (refusedWith 28 1 0 2)
+    ∷ edits (setEMmr "1999" ∷ []) [] (refusedWith 28 1 0 2)
     -- 750.75 is above 750: "dividing before comparing"
     ∷ edits (entry 6 5 "1001" ∷ []) [] (refusedWith 27 1 0 1)
-    ∷ edits (entry 6 5 "1001" ∷ EMmm-is "751" ∷ EMmr-is "2001" ∷ []) [] oneTruck
+    ∷ edits (entry 6 5 "1001" ∷ setEMmm "751" ∷ setEMmr "2001" ∷ []) [] oneTruck
     -- an extra truck with the second stack: TC × 1000 and TC × 1500; its first departure has no stack on and does not count
-    ∷ edits [] (copy2 "1" ∷ x2 "0" ∷ []) (acceptance 250000 2)
+    ∷ edits [] (setCopy2 "1" ∷ setX2 "0" ∷ []) (acceptance 250000 2)
     ∷ []
 
 -- ---- floor and contact
 abbrev pub floorCases : List Case
 floorCases =
     -- side by side at one x, and one millimetre too near: "dropping P2 when two x are equal"
-    edits (EMmm-is "1500" ∷ []) (x2 "0" ∷ y2 "1000" ∷ []) oneTruck
-    ∷ edits (EMmm-is "1500" ∷ []) (x2 "0" ∷ y2 "999" ∷ []) (refusedWith 23 1 2 0)
+    edits (setEMmm "1500" ∷ []) (setX2 "0" ∷ setY2 "1000" ∷ []) oneTruck
+    ∷ edits (setEMmm "1500" ∷ []) (setX2 "0" ∷ setY2 "999" ∷ []) (refusedWith 23 1 2 0)
     -- the pair with the lowest numbers, whatever stands first in the file
     ∷ edits [] (line 2 "stack=7,1,0,0,0,1" ∷ line 4 "stack=3,1,0,1499,0,1" ∷ []) (refusedWith 23 3 7 0)
     -- a corner is enough, and a millimetre off it is not
-    ∷ edits [] (y2 "1000" ∷ []) oneTruck
-    ∷ edits [] (y2 "1001" ∷ []) (refusedWith 24 2 0 0)
+    ∷ edits [] (setY2 "1000" ∷ []) oneTruck
+    ∷ edits [] (setY2 "1001" ∷ []) (refusedWith 24 2 0 0)
     -- a wide stack, 2000 across, before a narrow one
-    ∷ edits (line 6 "item=2000,1500,1000,0,1000,2,2,1,0,0,9,1,1,1,1,1" ∷ []) (line 2 "stack=1,1,0,0,0,2" ∷ y2 "500" ∷ []) oneTruck
+    ∷ edits (line 6 "item=2000,1500,1000,0,1000,2,2,1,0,0,9,1,1,1,1,1" ∷ []) (line 2 "stack=1,1,0,0,0,2" ∷ setY2 "500" ∷ []) oneTruck
     ∷ []
 
 -- ---- loading order P4: each case as the stacks stand, and with the order turned round
 abbrev pub orderCases : List Case
 orderCases =
     -- (1) suppliers
-    edits (line 10 "suppliers=2,1" ∷ []) [] (refusedWith 25 2 1 0)
+    edits [] [] oneTruck
+    ∷ edits (line 10 "suppliers=2,1" ∷ []) [] (refusedWith 25 2 1 0)
     -- (2) supplier docks of one supplier
     ∷ edits (line 7 otherDock ∷ line 11 "docks=1,2" ∷ []) [] oneTruck
     ∷ edits (line 7 otherDock ∷ line 11 "docks=2,1" ∷ []) [] (refusedWith 25 2 1 0)
@@ -117,15 +117,50 @@ orderCases =
     ∷ edits (line 7 otherPlantDock ∷ line 13 "plantdocks=2,1" ∷ []) [] (refusedWith 25 2 1 0)
     -- (3) with the reverse: equal docks tie no stack to another, whichever stands in front
     ∷ edits (line 7 sameSupplier ∷ []) [] oneTruck
-    ∷ edits (line 7 sameSupplier ∷ []) (entry 2 4 "1500" ∷ x2 "0" ∷ []) oneTruck
+    ∷ edits (line 7 sameSupplier ∷ []) (entry 2 4 "1500" ∷ setX2 "0" ∷ []) oneTruck
+    ∷ []
+
+-- ---- two plant docks: stack 1 has items for docks 1 and 2, stack 2 behind it two items for dock 2, all of one supplier and supplier dock
+abbrev pub twoDocks : Lines
+twoDocks =
+    oneTruckLoad "items=4" (
+    "item=1500,1000,1000,0,1000,1,2,1,0,0,9,1,1,1,1,1"
+    ∷ "item=1500,1000,1000,0,1000,1,2,1,0,0,9,1,2,1,1,1"
+    ∷ "item=1500,1000,1000,0,1000,1,2,1,0,0,9,1,2,1,1,1"
+    ∷ "item=1500,1000,1000,0,1000,1,2,1,0,0,9,1,2,1,1,1"
+    ∷ "truck=6000,2400,3000,24000,1,5,1000,1,1500,100,0,1,0,1,0,1000,0,500,4000,750"
+    ∷ "products=1"
+    ∷ "suppliers=1"
+    ∷ "docks=1"
+    ∷ "plantdocks=1,2"
+    ∷ []
+    )
+
+-- its plan
+abbrev pub twoDockStacks : Lines
+twoDockStacks = lines ("stacks=2" ∷ "stack=1,1,0,0,0,1" ∷ "load=1,2" ∷ "stack=2,1,0,1500,0,1" ∷ "load=3,4" ∷ [])
+
+-- 16, 17 and P4 (3) with a two-dock stack
+abbrev pub dockCases : List Case
+dockCases =
+    edits [] [] oneTruck
+    -- without the flag, and with docks that are not consecutive
+    ∷ edits (entry 10 8 "0" ∷ []) [] (refusedWith 16 1 2 0)
+    ∷ edits (line 14 "plantdocks=1,3,2" ∷ []) [] (refusedWith 16 1 2 0)
+    -- a second pair of docks in the other stack, and the same with another code
+    ∷ edits (entry 9 13 "1" ∷ []) [] (refusedWith 17 1 2 0)
+    ∷ edits (entry 9 13 "1" ∷ entry 8 6 "2" ∷ entry 9 6 "2" ∷ []) [] oneTruck
+    -- docks 1 and 2 are at most dock 2 and not also the reverse: the stacks may not change places, nor the docks their order
+    ∷ edits [] (entry 2 4 "1500" ∷ setX2 "0" ∷ []) (refusedWith 25 1 2 0)
+    ∷ edits (line 14 "plantdocks=2,1" ∷ []) [] (refusedWith 25 2 1 0)
     ∷ []
 
 -- ---- heights, on the printed load: the bottom item's nesting height does not count, the top item's does
 abbrev pub heightCases : List Case
 heightCases =
-    edits (TH-is "1900" ∷ []) [] (acceptance 248000 1)
-    ∷ edits (TH-is "2000" ∷ []) (line 3 "load=2,1" ∷ []) (acceptance 248000 1)
-    ∷ edits (TH-is "1999" ∷ []) (line 3 "load=2,1" ∷ []) (refusedWith 22 1 3 0)
+    edits (setTH "1900" ∷ []) [] (acceptance 248000 1)
+    ∷ edits (setTH "2000" ∷ []) (line 3 "load=2,1" ∷ []) (acceptance 248000 1)
+    ∷ edits (setTH "1999" ∷ []) (line 3 "load=2,1" ∷ []) (refusedWith 22 1 3 0)
     ∷ []
 
 -- ---- reading, on the printed load
