@@ -14,7 +14,7 @@ use Rattle.meaning.specs.Model.{Instance, Truck, Stack, item, truckNumbe
 use Rattle.meaning.specs.Measures.{bottom, docksOf, supplierOrder, supplierDockOrder, plantDockOrder}
 use Rattle.meaning.specs.Rules.{pairPlaces, docksUpTo, precedes, inOrder}
 use Rattle.meaning.specs.Feasible.{OneTruck, Stands, Earlier, NotLater, ItemFits, MustPrecede, bySupplier, byDock, byPlantDock}
-use Rattle.meaning.proofs.Tests.{true≢false, and-reads, or-reads, not-reads, le-reads, lt-reads, iff-trans}
+use Rattle.meaning.proofs.Tests.{true≢false, and-reads, or-reads, not-reads}
 use Rattle.meaning.proofs.Lists.{all-reads}
 use Rattle.meaning.proofs.Orders.{order-stands, stands-order, earlier-reads, notLater-reads, row-at}
 use Rattle.meaning.proofs.RuleKinds.{pairs-kept}
@@ -46,6 +46,19 @@ fits-listed i s sound fits =
       plantDock = λ n m. fits n m .plantDock;
     }
 
+-- every plant dock order of s is at most every one of r, on a truck t
+up-to : (i : Instance) (t : Truck) (s r : Stack) → distinct (t .plantDocks) ≡ true → truckOf i s ≡ t → truckOf i r ≡ t → Listed i t s → Listed i t r
+    → (docksUpTo i s r ≡ true) ↔ ((n m : ℕ) → In n (s .load) → In m (r .load) → NotLater (t .plantDocks) (IG (item i n)) (IG (item i m)))
+unfolding docksUpTo
+up-to i t s r d es er a b = (
+  (λ e n m k l. order n m k l .0 (all-reads _ (r .load) .0 (all-reads _ (s .load) .0 e n k) m l)),
+  (λ f. all-reads _ (s .load) .1 (λ n k. all-reads _ (r .load) .1 (λ m l. order n m k l .1 (f n m k l)))),
+)
+  where
+    order : (n m : ℕ) → In n (s .load) → In m (r .load)
+        → (leb (plantDockOrder i s (item i n)) (plantDockOrder i r (item i m)) ≡ true) ↔ NotLater (t .plantDocks) (IG (item i n)) (IG (item i m))
+    order n m k l = rw (es, er) (notLater-reads (t .plantDocks) d (IG (item i n)) (IG (item i m)) (a .plantDock n k) (b .plantDock m l))
+
 -- ---- P4 for stacks s and r of a truck t
 module _ (i : Instance) (s r : Stack) (sound : SoundStack i s) (same : truckOf i r ≡ truckOf i s) (a : Listed i (truckOf i s) s) (b : Listed i (truckOf i s) r) where
   abbrev t : Truck
@@ -65,10 +78,7 @@ module _ (i : Instance) (s r : Stack) (sound : SoundStack i s) (same : truckOf i
 
   -- (1)
   by-supplier : (smallerSupplier ≡ true) ↔ Earlier (t .suppliers) (IU (bottom i s)) (IU (bottom i r))
-  by-supplier =
-      rw same
-      (iff-trans (lt-reads (orderIn (t .suppliers) (IU (bottom i s))) (orderIn (t .suppliers) (IU (bottom i r))))
-      (earlier-reads (t .suppliers) (sound .suppliers) (IU (bottom i s)) (IU (bottom i r)) (a .supplier) (b .supplier)))
+  by-supplier = rw same (earlier-reads (t .suppliers) (sound .suppliers) (IU (bottom i s)) (IU (bottom i r)) (a .supplier) (b .supplier))
 
   docks-distinct : (k : ℕ) → distinct (getD ([] ∷ t .docks) k []) ≡ true
   unfolding distinct
@@ -80,38 +90,14 @@ module _ (i : Instance) (s r : Stack) (sound : SoundStack i s) (same : truckOf i
       let row : docksOf (truckOf i r) (IU (bottom i r)) ≡ docksOf t (IU (bottom i s)) = ap (λ (w : Truck). docksOf w (IU (bottom i r))) same ∙ ap (docksOf t) (sym e) in
       let there : In (IK (bottom i r)) (docksOf t (IU (bottom i s))) = subst (λ (u : ℕ). In (IK (bottom i r)) (docksOf t u)) (sym e) (b .dock) in
       let d : distinct (docksOf t (IU (bottom i s))) ≡ true = docks-distinct (orderIn (t .suppliers) (IU (bottom i s))) in
-      rw row
-      (iff-trans (lt-reads (orderIn (docksOf t (IU (bottom i s))) (IK (bottom i s))) (orderIn (docksOf t (IU (bottom i s))) (IK (bottom i r))))
-      (earlier-reads (docksOf t (IU (bottom i s))) d (IK (bottom i s)) (IK (bottom i r)) (a .dock) there))
+      rw row (earlier-reads (docksOf t (IU (bottom i s))) d (IK (bottom i s)) (IK (bottom i r)) (a .dock) there)
 
   -- (3), and its reverse
   upTo : (docksUpTo i s r ≡ true) ↔ ((n m : ℕ) → In n (s .load) → In m (r .load) → NotLater (t .plantDocks) (IG (item i n)) (IG (item i m)))
-  unfolding docksUpTo
-  upTo = (
-    (λ e n m k l. order n m k l .0 (all-reads _ (r .load) .0 (all-reads _ (s .load) .0 e n k) m l)),
-    (λ f. all-reads _ (s .load) .1 (λ n k. all-reads _ (r .load) .1 (λ m l. order n m k l .1 (f n m k l)))),
-  )
-    where
-      order : (n m : ℕ) → In n (s .load) → In m (r .load)
-          → (leb (plantDockOrder i s (item i n)) (plantDockOrder i r (item i m)) ≡ true) ↔ NotLater (t .plantDocks) (IG (item i n)) (IG (item i m))
-      order n m k l =
-          rw same
-          (iff-trans (le-reads (orderIn (t .plantDocks) (IG (item i n))) (orderIn (t .plantDocks) (IG (item i m))))
-          (notLater-reads (t .plantDocks) (sound .plantDocks) (IG (item i n)) (IG (item i m)) (a .plantDock n k) (b .plantDock m l)))
+  upTo = up-to i t s r (sound .plantDocks) refl same a b
 
   downTo : (docksUpTo i r s ≡ true) ↔ ((n m : ℕ) → In n (s .load) → In m (r .load) → NotLater (t .plantDocks) (IG (item i m)) (IG (item i n)))
-  unfolding docksUpTo
-  downTo = (
-    (λ e n m k l. order n m k l .0 (all-reads _ (s .load) .0 (all-reads _ (r .load) .0 e m l) n k)),
-    (λ f. all-reads _ (r .load) .1 (λ m l. all-reads _ (s .load) .1 (λ n k. order n m k l .1 (f n m k l)))),
-  )
-    where
-      order : (n m : ℕ) → In n (s .load) → In m (r .load)
-          → (leb (plantDockOrder i r (item i m)) (plantDockOrder i s (item i n)) ≡ true) ↔ NotLater (t .plantDocks) (IG (item i m)) (IG (item i n))
-      order n m k l =
-          rw same
-          (iff-trans (le-reads (orderIn (t .plantDocks) (IG (item i m))) (orderIn (t .plantDocks) (IG (item i n))))
-          (notLater-reads (t .plantDocks) (sound .plantDocks) (IG (item i m)) (IG (item i n)) (b .plantDock m l) (a .plantDock n k)))
+  downTo = let h = up-to i t r s (sound .plantDocks) same refl b a in ((λ e n m k l. h .0 e m n l k), (λ f. h .1 (λ m n l k. f n m k l)))
 
   -- the cases as the test has them
   abbrev caseDock : Bool

@@ -3,11 +3,11 @@ use mathlib.Core.Path.{_≡_, refl, sym, ap, subst, _∙_}
 use mathlib.Core.Logic.{_⊎_, inl, inr, ⊎-elim, _↔_}
 use mathlib.Core.Bool.{Bool, true, false, cond}
 use mathlib.Core.List.{List, [], _∷_}
-use Prim.Native.Nat.{ℕ, zero, suc, _+_, _-_, _≤_, _<_}
+use Prim.Native.Nat.{ℕ, zero, suc, _+_, _-_, _≤_}
 use native.Mathlib.Decide.{decLe}
 use native.Mathlib.Omega.{arith}
-use borrow.Author.Tests.{eqb-true, eqb-false}
-use lib.Dec.{eqb}
+use borrow.Author.Tests.{eqb-true, eqb-false, ltb-true, lt-ltb, leb-true, le-leb}
+use lib.Dec.{eqb, ltb, leb}
 use lib.ListN.{getD, take}
 use Rattle.meaning.specs.Lists.{In, listed, distinct, orderFrom, orderIn, between}
 use Rattle.meaning.specs.Feasible.{Stands, Earlier, NotLater}
@@ -88,18 +88,18 @@ stands-once (m ∷ l) n j k d h h′ = go (λ i i′. stands-once l n i i′ (d 
 pub stands-order : (l : List ℕ) (n k : ℕ) → distinct l ≡ true → Stands l n k → orderIn l n ≡ k
 stands-order l n k d h = stands-once l n (orderIn l n) k (distinct-reads l .0 d) (order-stands l n (stands-in l n k h)) h
 
--- in a list without repeats the places of two entries compare as their loading orders do
-module _ (l : List ℕ) (d : distinct l ≡ true) (a b : ℕ) where
-  pub earlier-reads : In a l → In b l → (orderIn l a < orderIn l b) ↔ Earlier l a b
-  earlier-reads m n = (
-    (λ h. record { first = orderIn l a; second = orderIn l b; ofFirst = order-stands l a m; ofSecond = order-stands l b n; order = h }),
-    (λ h. let e = stands-order l a (h .first) d (h .ofFirst) in let f = stands-order l b (h .second) d (h .ofSecond) in omega (arith, e, f, h .order)),
+-- in a list without repeats the loading orders of two entries compare as their places do
+module _ (l : List ℕ) (d : distinct l ≡ true) (a b : ℕ) (m : In a l) (n : In b l) where
+  pub earlier-reads : (ltb (orderIn l a) (orderIn l b) ≡ true) ↔ Earlier l a b
+  earlier-reads = (
+    (λ e. record { first = orderIn l a; second = orderIn l b; ofFirst = order-stands l a m; ofSecond = order-stands l b n; order = ltb-true _ _ e }),
+    (λ h. lt-ltb (orderIn l a) (orderIn l b) (rw (stands-order l a (h .first) d (h .ofFirst), stands-order l b (h .second) d (h .ofSecond)) (h .order))),
   )
 
-  pub notLater-reads : In a l → In b l → (orderIn l a ≤ orderIn l b) ↔ NotLater l a b
-  notLater-reads m n = (
-    (λ h. record { first = orderIn l a; second = orderIn l b; ofFirst = order-stands l a m; ofSecond = order-stands l b n; order = h }),
-    (λ h. let e = stands-order l a (h .first) d (h .ofFirst) in let f = stands-order l b (h .second) d (h .ofSecond) in omega (arith, e, f, h .order)),
+  pub notLater-reads : (leb (orderIn l a) (orderIn l b) ≡ true) ↔ NotLater l a b
+  notLater-reads = (
+    (λ e. record { first = orderIn l a; second = orderIn l b; ofFirst = order-stands l a m; ofSecond = order-stands l b n; order = leb-true _ _ e }),
+    (λ h. le-leb (orderIn l a) (orderIn l b) (rw (stands-order l a (h .first) d (h .ofFirst), stands-order l b (h .second) d (h .ofSecond)) (h .order))),
   )
 
 -- ---- a row for each entry of another list, and none for an entry that is not listed
