@@ -3,7 +3,7 @@ use mathlib.Core.Path.{_≡_, refl, sym, ap, subst, _∙_}
 use mathlib.Core.Logic.{_⊎_, inl, inr, ⊎-elim, _↔_}
 use mathlib.Core.Bool.{Bool, true, false, not, _&&_, _||_}
 use mathlib.Core.List.{List, [], _∷_}
-use Prim.Native.Nat.{ℕ, zero, suc, _-_, _≤_}
+use Prim.Native.Nat.{ℕ, zero, suc, _-_, _≤_, _<_}
 use native.Mathlib.Decide.{ℕ-discrete}
 use native.Mathlib.Omega.{arith}
 use borrow.Author.Tests.{leb-true, le-leb, eqb-true, eq-eqb}
@@ -14,9 +14,9 @@ use Rattle.meaning.specs.Model.{Instance, Truck, Stack, item, truckNumbe
 use Rattle.meaning.specs.Measures.{bottom, docksOf, supplierOrder, supplierDockOrder, plantDockOrder}
 use Rattle.meaning.specs.Rules.{pairPlaces, docksUpTo, precedes, inOrder}
 use Rattle.meaning.specs.Feasible.{OneTruck, Stands, Earlier, NotLater, ItemFits, MustPrecede, bySupplier, byDock, byPlantDock}
-use Rattle.meaning.proofs.Tests.{true≢false, and-reads, or-reads, not-reads}
+use Rattle.meaning.proofs.Tests.{true≢false, and-reads, or-reads, not-reads, le-reads, lt-reads}
 use Rattle.meaning.proofs.Lists.{all-reads}
-use Rattle.meaning.proofs.Orders.{order-stands, stands-order, earlier-reads, notLater-reads, row-at}
+use Rattle.meaning.proofs.Orders.{order-stands, stands-order, placed-reads, row-at}
 use Rattle.meaning.proofs.RuleKinds.{pairs-kept}
 use Rattle.meaning.proofs.Sound.{SoundStack, Sound}
 
@@ -57,7 +57,7 @@ up-to i t s r d es er a b = (
   where
     order : (n m : ℕ) → In n (s .load) → In m (r .load)
         → (leb (plantDockOrder i s (item i n)) (plantDockOrder i r (item i m)) ≡ true) ↔ NotLater (t .plantDocks) (IG (item i n)) (IG (item i m))
-    order n m k l = rw (es, er) (notLater-reads (t .plantDocks) d (IG (item i n)) (IG (item i m)) (a .plantDock n k) (b .plantDock m l))
+    order n m k l = rw (es, er) (placed-reads leb _≤_ le-reads (t .plantDocks) d (IG (item i n)) (IG (item i m)) (a .plantDock n k) (b .plantDock m l))
 
 -- ---- P4 for stacks s and r of a truck t
 module _ (i : Instance) (s r : Stack) (sound : SoundStack i s) (same : truckOf i r ≡ truckOf i s) (a : Listed i (truckOf i s) s) (b : Listed i (truckOf i s) r) where
@@ -78,7 +78,7 @@ module _ (i : Instance) (s r : Stack) (sound : SoundStack i s) (same : truckOf i
 
   -- (1)
   by-supplier : (smallerSupplier ≡ true) ↔ Earlier (t .suppliers) (IU (bottom i s)) (IU (bottom i r))
-  by-supplier = rw same (earlier-reads (t .suppliers) (sound .suppliers) (IU (bottom i s)) (IU (bottom i r)) (a .supplier) (b .supplier))
+  by-supplier = rw same (placed-reads ltb _<_ lt-reads (t .suppliers) (sound .suppliers) (IU (bottom i s)) (IU (bottom i r)) (a .supplier) (b .supplier))
 
   docks-distinct : (k : ℕ) → distinct (getD ([] ∷ t .docks) k []) ≡ true
   unfolding distinct
@@ -90,7 +90,7 @@ module _ (i : Instance) (s r : Stack) (sound : SoundStack i s) (same : truckOf i
       let row : docksOf (truckOf i r) (IU (bottom i r)) ≡ docksOf t (IU (bottom i s)) = ap (λ (w : Truck). docksOf w (IU (bottom i r))) same ∙ ap (docksOf t) (sym e) in
       let there : In (IK (bottom i r)) (docksOf t (IU (bottom i s))) = subst (λ (u : ℕ). In (IK (bottom i r)) (docksOf t u)) (sym e) (b .dock) in
       let d : distinct (docksOf t (IU (bottom i s))) ≡ true = docks-distinct (orderIn (t .suppliers) (IU (bottom i s))) in
-      rw row (earlier-reads (docksOf t (IU (bottom i s))) d (IK (bottom i s)) (IK (bottom i r)) (a .dock) there)
+      rw row (placed-reads ltb _<_ lt-reads (docksOf t (IU (bottom i s))) d (IK (bottom i s)) (IK (bottom i r)) (a .dock) there)
 
   -- (3), and its reverse
   upTo : (docksUpTo i s r ≡ true) ↔ ((n m : ℕ) → In n (s .load) → In m (r .load) → NotLater (t .plantDocks) (IG (item i n)) (IG (item i m)))

@@ -6,11 +6,11 @@ use mathlib.Core.List.{List, [], _∷_}
 use Prim.Native.Nat.{ℕ, zero, suc, _+_, _-_, _≤_}
 use native.Mathlib.Decide.{decLe}
 use native.Mathlib.Omega.{arith}
-use borrow.Author.Tests.{eqb-true, eqb-false, ltb-true, lt-ltb, leb-true, le-leb}
-use lib.Dec.{eqb, ltb, leb}
+use borrow.Author.Tests.{eqb-true, eqb-false}
+use lib.Dec.{eqb}
 use lib.ListN.{getD, take}
 use Rattle.meaning.specs.Lists.{In, listed, distinct, orderFrom, orderIn, between}
-use Rattle.meaning.specs.Feasible.{Stands, Earlier, NotLater}
+use Rattle.meaning.specs.Feasible.{Stands, Placed}
 use Rattle.meaning.proofs.Tests.{between-reads, same-test}
 use Rattle.meaning.proofs.Lists.{NoRepeat, at-in, listed-reads, distinct-reads}
 
@@ -88,19 +88,15 @@ stands-once (m ∷ l) n j k d h h′ = go (λ i i′. stands-once l n i i′ (d 
 pub stands-order : (l : List ℕ) (n k : ℕ) → distinct l ≡ true → Stands l n k → orderIn l n ≡ k
 stands-order l n k d h = stands-once l n (orderIn l n) k (distinct-reads l .0 d) (order-stands l n (stands-in l n k h)) h
 
--- in a list without repeats the loading orders of two entries compare as their places do
-module _ (l : List ℕ) (d : distinct l ≡ true) (a b : ℕ) (m : In a l) (n : In b l) where
-  pub earlier-reads : (ltb (orderIn l a) (orderIn l b) ≡ true) ↔ Earlier l a b
-  earlier-reads = (
-    (λ e. record { first = orderIn l a; second = orderIn l b; ofFirst = order-stands l a m; ofSecond = order-stands l b n; order = ltb-true _ _ e }),
-    (λ h. lt-ltb (orderIn l a) (orderIn l b) (rw (stands-order l a (h .first) d (h .ofFirst), stands-order l b (h .second) d (h .ofSecond)) (h .order))),
-  )
-
-  pub notLater-reads : (leb (orderIn l a) (orderIn l b) ≡ true) ↔ NotLater l a b
-  notLater-reads = (
-    (λ e. record { first = orderIn l a; second = orderIn l b; ofFirst = order-stands l a m; ofSecond = order-stands l b n; order = leb-true _ _ e }),
-    (λ h. le-leb (orderIn l a) (orderIn l b) (rw (stands-order l a (h .first) d (h .ofFirst), stands-order l b (h .second) d (h .ofSecond)) (h .order))),
-  )
+-- in a list without repeats the loading orders of two entries compare as their places do, by any test
+pub placed-reads : (test : ℕ → ℕ → Bool) (R : ℕ → ℕ → Type 0) → ((j k : ℕ) → (test j k ≡ true) ↔ R j k)
+    → (l : List ℕ) → distinct l ≡ true → (a b : ℕ) → In a l → In b l → (test (orderIn l a) (orderIn l b) ≡ true) ↔ Placed R l a b
+placed-reads test R reads l d a b m n =
+    let j = orderIn l a in
+    let k = orderIn l b in (
+      (λ e. record { first = j; second = k; ofFirst = order-stands l a m; ofSecond = order-stands l b n; order = reads j k .0 e }),
+      (λ h. reads j k .1 (rw (stands-order l a (h .first) d (h .ofFirst), stands-order l b (h .second) d (h .ofSecond)) (h .order))),
+    )
 
 -- ---- a row for each entry of another list, and none for an entry that is not listed
 pub row-at : (rows : List (List ℕ)) (k : ℕ) → 1 ≤ k → getD ([] ∷ rows) k [] ≡ getD rows (k - 1) []

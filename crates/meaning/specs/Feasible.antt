@@ -30,21 +30,21 @@ pub record Stands (l : List ℕ) (n k : ℕ) : Type 0 where
   pub upTo : k ≤ length l
   pub there : getD l (k - 1) 0 ≡ n
 
--- a stands before b in a list
-pub record Earlier (l : List ℕ) (a b : ℕ) : Type 0 where
+-- a and b stand in a list, at places that R compares
+pub record Placed (R : ℕ → ℕ → Type 0) (l : List ℕ) (a b : ℕ) : Type 0 where
   pub first : ℕ
   pub second : ℕ
   pub ofFirst : Stands l a first
   pub ofSecond : Stands l b second
-  pub order : first < second
+  pub order : R first second
+
+-- a stands before b
+abbrev pub Earlier : List ℕ → ℕ → ℕ → Type 0
+Earlier l a b = Placed _<_ l a b
 
 -- a stands before b, or both stand at one place
-pub record NotLater (l : List ℕ) (a b : ℕ) : Type 0 where
-  pub first : ℕ
-  pub second : ℕ
-  pub ofFirst : Stands l a first
-  pub ofSecond : Stands l b second
-  pub order : first ≤ second
+abbrev pub NotLater : List ℕ → ℕ → ℕ → Type 0
+NotLater l a b = Placed _≤_ l a b
 
 -- n stands at one place of a list and at no other
 pub record Once (n : ℕ) (l : List ℕ) : Type 0 where
