@@ -10,32 +10,53 @@ mod mutate;
 mod packed;
 #[path = "cases/random.rs"]
 mod random;
+#[path = "cases/reading.rs"]
+mod reading;
+#[path = "cases/reading_fields.rs"]
+mod reading_fields;
+#[path = "cases/reading_files.rs"]
+mod reading_files;
+#[path = "cases/reading_lines.rs"]
+mod reading_lines;
+#[path = "cases/reading_numbers.rs"]
+mod reading_numbers;
 #[path = "cases/recipe.rs"]
 mod recipe;
 #[path = "cases/render.rs"]
 mod render;
 
 use random::Random;
+use recipe::Made;
 use std::fmt::Write;
 use std::path::{Path, PathBuf};
 use std::process::ExitCode;
 
+const USAGE: &str = "usage: cases DIR COUNT SEED [--small]
+       cases DIR --reading
+  DIR        where the files and list.txt are written
+  COUNT SEED so many random cases; the same seed gives the same files
+  --small    small loads only
+  --reading  every bad and edge input of the two files, each a small change of one load";
+
+enum Content {
+    Random { count: u64, seed: u64, small: bool },
+    Reading,
+}
+
 struct Order {
     folder: PathBuf,
-    count: u64,
-    seed: u64,
-    small: bool,
+    content: Content,
 }
 
 fn main() -> ExitCode {
     let arguments: Vec<String> = std::env::args().skip(1).collect();
     let Some(order) = parse(&arguments) else {
-        eprintln!("usage: cases DIR COUNT SEED [--small]");
+        eprintln!("{USAGE}");
         return ExitCode::FAILURE;
     };
     match write_cases(&order) {
         Ok(tally) => {
-            print_tally(&tally, order.count);
+            print_tally(&tally);
             ExitCode::SUCCESS
         }
         Err(error) => {
@@ -46,15 +67,23 @@ fn main() -> ExitCode {
 }
 
 fn parse(arguments: &[String]) -> Option<Order> {
-    let small = match arguments.get(3).map(String::as_str) {
-        None => false,
-        Some("--small") => true,
-        Some(_) => return None,
+    let words: Vec<&str> = arguments.iter().map(String::as_str).collect();
+    let (folder, content) = match words[..] {
+        [folder, "--reading"] => (folder, Content::Reading),
+        [folder, count, seed] => (folder, random_content(count, seed, false)?),
+        [folder, count, seed, "--small"] => (folder, random_content(count, seed, true)?),
+        _ => return None,
     };
     Some(Order {
-        folder: PathBuf::from(arguments.first()?),
-        count: arguments.get(1)?.parse().ok()?,
-        seed: arguments.get(2)?.parse().ok()?,
+        folder: PathBuf::from(folder),
+        content,
+    })
+}
+
+fn random_content(count: &str, seed: &str, small: bool) -> Option<Content> {
+    Some(Content::Random {
+        count: count.parse().ok()?,
+        seed: seed.parse().ok()?,
         small,
     })
 }
@@ -62,13 +91,11 @@ fn parse(arguments: &[String]) -> Option<Order> {
 /// Writes the files and the list; returns how many cases each verdict has.
 fn write_cases(order: &Order) -> std::io::Result<[u64; 29]> {
     std::fs::create_dir_all(&order.folder)?;
+    let (letter, cases) = cases_of(&order.content);
     let mut tally = [0; 29];
     let mut list = String::new();
-    for index in 0..order.count {
-        // Each case has its own stream, so it does not depend on those before it.
-        let mut rng = Random::new(order.seed, index);
-        let made = recipe::make(&mut rng, order.small);
-        let name = format!("c{index:06}");
+    for (index, made) in cases.enumerate() {
+        let name = format!("{letter}{index:06}");
         write_file(&order.folder, &name, "instance", &made.instance)?;
         write_file(&order.folder, &name, "plan", &made.plan)?;
         let answer = made.answer;
@@ -81,11 +108,24 @@ fn write_cases(order: &Order) -> std::io::Result<[u64; 29]> {
     Ok(tally)
 }
 
+/// The cases one after the other, and the letter their names begin with.
+fn cases_of(content: &Content) -> (char, Box<dyn Iterator<Item = Made>>) {
+    match *content {
+        Content::Random { count, seed, small } => {
+            // Each case has its own stream, so it does not depend on those before it.
+            let made = move |index| recipe::make(&mut Random::new(seed, index), small);
+            ('c', Box::new((0..count).map(made)))
+        }
+        Content::Reading => ('r', Box::new(reading::all().into_iter())),
+    }
+}
+
 fn write_file(folder: &Path, name: &str, kind: &str, bytes: &[u8]) -> std::io::Result<()> {
     std::fs::write(folder.join(format!("{name}.{kind}")), bytes)
 }
 
-fn print_tally(tally: &[u64; 29], count: u64) {
+fn print_tally(tally: &[u64; 29]) {
+    let count: u64 = tally.iter().sum();
     println!("verdict   cases   percent");
     for (number, &cases) in tally.iter().enumerate() {
         let percent = 100.0 * cases as f64 / count.max(1) as f64;

@@ -2,6 +2,8 @@
 
 #![allow(dead_code)] // each test file uses a part
 
+pub mod generator;
+
 use reference::table::NAMED_WORDS;
 use reference::{check, Answer};
 

@@ -105,31 +105,31 @@ impl Text {
         (count > 0).then(|| (at, rng.below(count)))
     }
 
-    fn set_entry(&mut self, at: usize, place: usize, entry: &[u8]) {
+    pub fn set_entry(&mut self, at: usize, place: usize, entry: &[u8]) {
         let mut list = entries(&self.lines[at]);
         list[place] = entry.to_vec();
         self.set_entries(at, &list);
     }
 
-    fn set_entries(&mut self, at: usize, list: &[Vec<u8>]) {
+    pub fn set_entries(&mut self, at: usize, list: &[Vec<u8>]) {
         let mut line = key(&self.lines[at]).to_vec();
         line.extend(list.join(&b','));
         self.lines[at] = line;
     }
 
-    fn number(&self, at: usize, place: usize) -> Option<u64> {
+    pub fn number(&self, at: usize, place: usize) -> Option<u64> {
         let list = entries(&self.lines[at]);
         std::str::from_utf8(list.get(place)?).ok()?.parse().ok()
     }
 }
 
 /// The line up to its equals sign, the sign included; empty if there is none.
-fn key(line: &[u8]) -> &[u8] {
+pub fn key(line: &[u8]) -> &[u8] {
     let end = line.iter().position(|&byte| byte == b'=').map_or(0, |place| place + 1);
     &line[..end]
 }
 
-fn entries(line: &[u8]) -> Vec<Vec<u8>> {
+pub fn entries(line: &[u8]) -> Vec<Vec<u8>> {
     let value = &line[key(line).len()..];
     value.split(|&byte| byte == b',').map(<[u8]>::to_vec).collect()
 }

@@ -17,7 +17,7 @@ pub struct Made {
 }
 
 impl Made {
-    fn new(kind: impl Into<String>, instance: Vec<u8>, plan: Vec<u8>) -> Self {
+    pub fn new(kind: impl Into<String>, instance: Vec<u8>, plan: Vec<u8>) -> Self {
         let answer = check(&instance, &plan, &mut vec![0; NAMED_WORDS]);
         Made {
             kind: kind.into(),
