@@ -1,7 +1,7 @@
 -- Rule 24 says that every stack begins a chain of contacts to the front wall.
 use mathlib.Core.Path.{_≡_, ap}
 use mathlib.Core.Logic.{_⊎_, inl, inr, ⊎-elim, _↔_}
-use mathlib.Core.Bool.{true, _&&_}
+use mathlib.Core.Bool.{Bool, true, _&&_}
 use mathlib.Core.List.{List, [], _∷_}
 use Prim.Native.Nat.{ℕ, zero, suc, _≤_, max}
 use native.Mathlib.Nat.{le-refl}
@@ -11,8 +11,8 @@ use lib.Dec.{leb, eqb}
 use Rattle.meaning.specs.Lists.{any, In}
 use Rattle.meaning.specs.Model.{Instance, Stack, number, x, y}
 use Rattle.meaning.specs.Measures.{another, xe, ye}
-use Rattle.meaning.specs.Rules.{stackPlaces, holds, braced, noAmount}
-use Rattle.meaning.specs.Feasible.{OneTruck, Contact, Chain}
+use Rattle.meaning.specs.Rules.{stackPlaces, braces, braced, noAmount}
+use Rattle.meaning.specs.Feasible.{SameTruck, Contact, Chain}
 use Rattle.meaning.proofs.Tests.{and-reads, or-reads}
 use Rattle.meaning.proofs.Lists.{any-reads}
 use Rattle.meaning.proofs.RuleKinds.{another-reads, stacks-kept}
@@ -20,7 +20,7 @@ use Rattle.meaning.proofs.Sound.{Sound}
 use Rattle.meaning.proofs.Extents.{Ends, sound-ends}
 
 -- the rule's test is a contact
-contact-reads : (i : Instance) (s r : Stack) → Ends i s → Ends i r → (holds i s r ≡ true) ↔ Contact i s r
+contact-reads : (i : Instance) (s r : Stack) → Ends i s → Ends i r → (braces i s r ≡ true) ↔ Contact i s r
 contact-reads i s r a b = (
   (λ e.
       let h = and-reads (eqb (xe i r) (x s) && leb (y s) (ye i r)) (leb (y r) (ye i s)) .0 e in
@@ -51,34 +51,34 @@ module _ (i : Instance) (p : List Stack) (sound : Sound i p) where
   record HeldBy (s : Stack) : Type 0 where
     by : Stack
     there : In by p
-    together : OneTruck s by
+    together : SameTruck s by
     other : number s ≡ number by → ⊥
     contact : Contact i s by
 
   ends : (s : Stack) → In s p → Ends i s
   ends s m = sound-ends i s (sound .stacks s m)
 
-  abbrev someHolds : Stack → mathlib.Core.Bool.Bool
-  someHolds s = any (λ (r : Stack). another s r && holds i s r) p
+  abbrev someBraces : Stack → Bool
+  someBraces s = any (λ (r : Stack). another s r && braces i s r) p
 
   braced-reads : (s : Stack) → In s p → (braced i p s ≡ true) ↔ ((x s ≡ 0) ⊎ HeldBy s)
   braced-reads s m = (
     (λ e.
         ⊎-elim (λ k. inl (eqb-true (x s) 0 k))
         (λ k.
-        let w = any-reads (λ (r : Stack). another s r && holds i s r) p .0 k in
-        let h = and-reads (another s (w .0)) (holds i s (w .0)) .0 (w .2) in
+        let w = any-reads (λ (r : Stack). another s r && braces i s r) p .0 k in
+        let h = and-reads (another s (w .0)) (braces i s (w .0)) .0 (w .2) in
         let o = another-reads s (w .0) .0 (h .0) in
         inr (record { by = w .0; there = w .1; together = o .0; other = o .1; contact = contact-reads i s (w .0) (ends s m) (ends (w .0) (w .1)) .0 (h .1) }))
-        (or-reads (eqb (x s) 0) (someHolds s) .0 e)),
+        (or-reads (eqb (x s) 0) (someBraces s) .0 e)),
     (λ h.
-        or-reads (eqb (x s) 0) (someHolds s) .1
+        or-reads (eqb (x s) 0) (someBraces s) .1
         (⊎-elim (λ k. inl (eq-eqb (x s) 0 k))
         (λ b.
-        inr (any-reads (λ (r : Stack). another s r && holds i s r) p .1 (
+        inr (any-reads (λ (r : Stack). another s r && braces i s r) p .1 (
           b .by,
           b .there,
-          and-reads (another s (b .by)) (holds i s (b .by)) .1
+          and-reads (another s (b .by)) (braces i s (b .by)) .1
               (another-reads s (b .by) .1 (b .together, b .other), contact-reads i s (b .by) (ends s m) (ends (b .by) (b .there)) .1 (b .contact)),
         ))) h)),
   )

@@ -10,8 +10,8 @@ use lib.Dec.{leb, eqb}
 use Rattle.meaning.specs.Lists.{In}
 use Rattle.meaning.specs.Model.{Instance, Stack, truckOf, number, orientation, x, y, IL, IW, TL, TW}
 use Rattle.meaning.specs.Measures.{bottom, along, across, xe, ye}
-use Rattle.meaning.specs.Rules.{pairPlaces, apart}
-use Rattle.meaning.specs.Feasible.{OneTruck, turnedBy, endX, endY, Under, OnFloor}
+use Rattle.meaning.specs.Rules.{pairPlaces, disjoint}
+use Rattle.meaning.specs.Feasible.{SameTruck, turnedBy, endX, endY, Under, OnFloor}
 use Rattle.meaning.proofs.Tests.{decide, or-reads, or-false}
 use Rattle.meaning.proofs.RuleKinds.{pairs-kept}
 use Rattle.meaning.proofs.Sound.{SoundStack, Sound}
@@ -47,7 +47,7 @@ sound-ends i s h =
 -- ---- 23, for two stacks
 module _ (i : Instance) (s r : Stack) (a : Ends i s) (b : Ends i r) where
   -- stacks that lie apart share no square
-  apart-none : apart i s r ≡ true → (u v : ℕ) → Under i s u v → Under i r u v → ⊥
+  apart-none : disjoint i s r ≡ true → (u v : ℕ) → Under i s u v → Under i r u v → ⊥
   apart-none e u v f g =
       ⊎-elim
       (λ h.
@@ -62,7 +62,7 @@ module _ (i : Instance) (s r : Stack) (a : Ends i s) (b : Ends i r) where
       (or-reads (leb (xe i s) (x r) || leb (xe i r) (x s) || leb (ye i s) (y r)) (leb (ye i r) (y s)) .0 e)
 
   -- stacks that do not lie apart share the square where the later starts meet
-  shared : apart i s r ≡ false → (u : ℕ) × (v : ℕ) × Under i s u v × Under i r u v
+  shared : disjoint i s r ≡ false → (u : ℕ) × (v : ℕ) × Under i s u v × Under i r u v
   shared e =
       let c = or-false (leb (xe i s) (x r) || leb (xe i r) (x s) || leb (ye i s) (y r)) (leb (ye i r) (y s)) .0 e in
       let d = or-false (leb (xe i s) (x r) || leb (xe i r) (x s)) (leb (ye i s) (y r)) .0 (c .0) in
@@ -77,8 +77,8 @@ module _ (i : Instance) (s r : Stack) (a : Ends i s) (b : Ends i r) where
         record { fromX = omega arith; beforeXe = omega (arith, b .atX, b .long); fromY = omega arith; beforeYe = omega (arith, b .atY, b .wide) },
       )
 
-  none-apart : ((u v : ℕ) → Under i s u v → Under i r u v → ⊥) → apart i s r ≡ true
-  none-apart f = ⊎-elim (λ e. e) (λ e. let w = shared e in absurd (f (w .0) (w .1) (w .2) (w .3))) (decide (apart i s r))
+  none-apart : ((u v : ℕ) → Under i s u v → Under i r u v → ⊥) → disjoint i s r ≡ true
+  none-apart f = ⊎-elim (λ e. e) (λ e. let w = shared e in absurd (f (w .0) (w .1) (w .2) (w .3))) (decide (disjoint i s r))
 
 module _ (i : Instance) (p : List Stack) (sound : Sound i p) where
   ends : (s : Stack) → In s p → Ends i s
@@ -86,11 +86,11 @@ module _ (i : Instance) (p : List Stack) (sound : Sound i p) where
 
   -- 23 overlap
   pub floor-exactly :
-      (pairPlaces apart i p ≡ [])
-      ↔ ((s r : Stack) → In s p → In r p → OneTruck s r → (number s ≡ number r → ⊥) → (u v : ℕ) → Under i s u v → Under i r u v → ⊥)
+      (pairPlaces disjoint i p ≡ [])
+      ↔ ((s r : Stack) → In s p → In r p → SameTruck s r → (number s ≡ number r → ⊥) → (u v : ℕ) → Under i s u v → Under i r u v → ⊥)
   floor-exactly = (
-    (λ e s r m n o d. apart-none i s r (ends s m) (ends r n) (pairs-kept i p apart .0 e s r m n o d)),
-    (λ f. pairs-kept i p apart .1 (λ s r m n o d. none-apart i s r (ends s m) (ends r n) (f s r m n o d))),
+    (λ e s r m n o d. apart-none i s r (ends s m) (ends r n) (pairs-kept i p disjoint .0 e s r m n o d)),
+    (λ f. pairs-kept i p disjoint .1 (λ s r m n o d. none-apart i s r (ends s m) (ends r n) (f s r m n o d))),
   )
 
   -- 22 outside, length and width: the last square of a stack is on the floor

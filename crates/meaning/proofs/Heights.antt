@@ -12,7 +12,7 @@ use lib.ListN.{drop}
 use Rattle.meaning.specs.Lists.{In, sum}
 use Rattle.meaning.specs.Model.{Instance, Stack, item, truckOf, IH, nesting, TL, TW, TH}
 use Rattle.meaning.specs.Measures.{above, xe, ye, height}
-use Rattle.meaning.specs.Rules.{stackPlaces, lengthFits, widthFits, heightFits, inside, dimension}
+use Rattle.meaning.specs.Rules.{stackPlaces, withinLength, withinWidth, withinHeight, inside, exceededSide}
 use Rattle.meaning.specs.Feasible.{heightOf}
 use Rattle.meaning.proofs.Tests.{and-reads}
 use Rattle.meaning.proofs.RuleKinds.{stacks-kept}
@@ -52,18 +52,18 @@ module _ (i : Instance) (p : List Stack) (sound : Sound i p) where
   inside-reads s m =
       let signed = height-signed i s (sound .stacks s m) in (
         (λ e.
-            let h = and-reads (lengthFits i s && widthFits i s) (heightFits i s) .0 e in
-            let k = and-reads (lengthFits i s) (widthFits i s) .0 (h .0) in
+            let h = and-reads (withinLength i s && withinWidth i s) (withinHeight i s) .0 e in
+            let k = and-reads (withinLength i s) (withinWidth i s) .0 (h .0) in
             (leb-true _ _ (k .0), leb-true _ _ (k .1), rw signed (le-signed (height i s) (TH (truckOf i s)) .1 (leb-true _ _ (h .1))))),
         (λ h.
-            and-reads (lengthFits i s && widthFits i s) (heightFits i s) .1 (
-              and-reads (lengthFits i s) (widthFits i s) .1 (le-leb _ _ (h .0), le-leb _ _ (h .1)),
+            and-reads (withinLength i s && withinWidth i s) (withinHeight i s) .1 (
+              and-reads (withinLength i s) (withinWidth i s) .1 (le-leb _ _ (h .0), le-leb _ _ (h .1)),
               le-leb _ _ (le-signed (height i s) (TH (truckOf i s)) .0 (rw signed at (h .2))),
             )),
       )
 
-  pub inside-exactly : (stackPlaces inside dimension i p ≡ []) ↔ ((s : Stack) → In s p → Inside s)
+  pub inside-exactly : (stackPlaces inside exceededSide i p ≡ []) ↔ ((s : Stack) → In s p → Inside s)
   inside-exactly = (
-    (λ e s m. inside-reads s m .0 (stacks-kept i p inside dimension .0 e s m)),
-    (λ f. stacks-kept i p inside dimension .1 (λ s m. inside-reads s m .1 (f s m))),
+    (λ e s m. inside-reads s m .0 (stacks-kept i p inside exceededSide .0 e s m)),
+    (λ f. stacks-kept i p inside exceededSide .1 (λ s m. inside-reads s m .1 (f s m))),
   )

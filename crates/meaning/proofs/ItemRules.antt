@@ -13,7 +13,7 @@ use Rattle.meaning.specs.Lists.{In, filter, sum, onlyIf, upFrom, orderIn
 use Rattle.meaning.specs.Places.{place}
 use Rattle.meaning.specs.Model.{Instance, Truck, Stack, Item, item, truckOf, IR, IP, IU, IK, IG, IDE, IDL, TP, TDA}
 use Rattle.meaning.specs.Measures.{docksOf, supplierDockOrder, plantDockOrder}
-use Rattle.meaning.specs.Rules.{itemPlaces, timesLoaded, notOnce, plantFits, productFits, supplierFits, dayFits, docksListed}
+use Rattle.meaning.specs.Rules.{itemPlaces, timesLoaded, notOnce, plantMatches, productCarried, supplierVisited, arrivesInWindow, docksServed}
 use Rattle.meaning.specs.Feasible.{Stands, Once, ItemFits}
 use Rattle.meaning.proofs.Tests.{and-reads, le-reads, between-reads, iff-trans, iff-both}
 use Rattle.meaning.proofs.Lists.{in-filter, in-upFrom, flatMap-none, unless-none, listed-reads}
@@ -139,7 +139,7 @@ module _ (i : Instance) (s : Stack) (n : ℕ) where
 
   -- 14, where the loading order of the item's supplier is k
   docks-reads : (k : ℕ) → orderIn (on .suppliers) (IU it) ≡ k → 1 ≤ k
-      → (docksListed i s it ≡ true) ↔ (In (IK it) (getD (on .docks) (k - 1) []) × In (IG it) (on .plantDocks))
+      → (docksServed i s it ≡ true) ↔ (In (IK it) (getD (on .docks) (k - 1) []) × In (IG it) (on .plantDocks))
   docks-reads k e from = iff-trans (and-reads (leb 1 (supplierDockOrder i s it)) (leb 1 (plantDockOrder i s it))) (iff-both
       (subst (λ (d : List ℕ). (leb 1 (supplierDockOrder i s it) ≡ true) ↔ In (IK it) d) same
       (iff-trans (le-reads 1 (supplierDockOrder i s it)) (order-in (docksOf on (IU it)) (IK it))))
@@ -149,7 +149,7 @@ module _ (i : Instance) (s : Stack) (n : ℕ) where
       same = ap (λ (j : ℕ). getD ([] ∷ on .docks) j []) e ∙ row-at (on .docks) k from
 
   abbrev Passes : Type 0
-  Passes = (plantFits i s it ≡ true) × (productFits i s it ≡ true) × (supplierFits i s it ≡ true) × (dayFits i s it ≡ true) × (docksListed i s it ≡ true)
+  Passes = (plantMatches i s it ≡ true) × (productCarried i s it ≡ true) × (supplierVisited i s it ≡ true) × (arrivesInWindow i s it ≡ true) × (docksServed i s it ≡ true)
 
   -- the loading order of its supplier is the place k
   passes-fit : Passes → ItemFits i s n
@@ -182,23 +182,23 @@ module _ (i : Instance) (s : Stack) (n : ℕ) where
 
 -- 10 to 14: each loaded item fits its truck
 pub items-exactly : (i : Instance) (p : List Stack) → Sound i p
-    → ((itemPlaces plantFits i p ≡ []) × (itemPlaces productFits i p ≡ []) × (itemPlaces supplierFits i p ≡ []) × (itemPlaces dayFits i p ≡ [])
-    × (itemPlaces docksListed i p ≡ []))
+    → ((itemPlaces plantMatches i p ≡ []) × (itemPlaces productCarried i p ≡ []) × (itemPlaces supplierVisited i p ≡ []) × (itemPlaces arrivesInWindow i p ≡ [])
+    × (itemPlaces docksServed i p ≡ []))
     ↔ ((s : Stack) → In s p → (n : ℕ) → In n (s .load) → ItemFits i s n)
 items-exactly i p sound = (
   (λ h s m n k. passes-fit i s n (
-    items-kept i p plantFits .0 (h .0) s m n k,
-    items-kept i p productFits .0 (h .1) s m n k,
-    items-kept i p supplierFits .0 (h .2) s m n k,
-    items-kept i p dayFits .0 (h .3) s m n k,
-    items-kept i p docksListed .0 (h .4) s m n k,
+    items-kept i p plantMatches .0 (h .0) s m n k,
+    items-kept i p productCarried .0 (h .1) s m n k,
+    items-kept i p supplierVisited .0 (h .2) s m n k,
+    items-kept i p arrivesInWindow .0 (h .3) s m n k,
+    items-kept i p docksServed .0 (h .4) s m n k,
   )),
   (λ f.
       let passes : (s : Stack) → In s p → (n : ℕ) → In n (s .load) → Passes i s n = λ s m n k. fit-passes i s n (sound .stacks s m .suppliers) (f s m n k) in (
-        items-kept i p plantFits .1 (λ s m n k. passes s m n k .0),
-        items-kept i p productFits .1 (λ s m n k. passes s m n k .1),
-        items-kept i p supplierFits .1 (λ s m n k. passes s m n k .2),
-        items-kept i p dayFits .1 (λ s m n k. passes s m n k .3),
-        items-kept i p docksListed .1 (λ s m n k. passes s m n k .4),
+        items-kept i p plantMatches .1 (λ s m n k. passes s m n k .0),
+        items-kept i p productCarried .1 (λ s m n k. passes s m n k .1),
+        items-kept i p supplierVisited .1 (λ s m n k. passes s m n k .2),
+        items-kept i p arrivesInWindow .1 (λ s m n k. passes s m n k .3),
+        items-kept i p docksServed .1 (λ s m n k. passes s m n k .4),
       )),
 )

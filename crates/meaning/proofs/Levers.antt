@@ -11,8 +11,8 @@ use lib.ListN.{length, take}
 use Rattle.meaning.specs.Lists.{In, filter, listed, between, sum, sumℤ}
 use Rattle.meaning.specs.Model.{Instance, Truck, Stack, truckNumbered, truckOf, truck, copy, x, IU, TMm, CM, CJfm, CJfc, CJfh, EM, EJhr, EJcr, EJeh, EMmr, EMmm}
 use Rattle.meaning.specs.Measures.{bottom, xe, sm, supplierOrder, UsedTruck, usedBy, sameUsed, usedTrucks, stacksOn, weightOn, departures, stacksAt, lever, H}
-use Rattle.meaning.specs.Rules.{truckPlaces, departurePlaces, counts, loadFits, middleFits, rearFits}
-use Rattle.meaning.specs.Feasible.{weightOf, sumWhere, onTruckOf, onAt, endX, toMiddle, toRear, AxlesBear}
+use Rattle.meaning.specs.Rules.{truckPlaces, departurePlaces, counts, withinLoadLimit, middleAxleHolds, rearAxleHolds}
+use Rattle.meaning.specs.Feasible.{weightOf, sumWhere, onTruckOf, onAt, endX, toMiddle, toRear, AxleLoadsWithin}
 use Rattle.meaning.proofs.Tests.{decide, and-reads, le-reads, leZ-reads, iff-trans, iff-sym}
 use Rattle.meaning.proofs.Lists.{in-filter, in-map, in-dedup, in-upFrom}
 use Rattle.meaning.proofs.Orders.{order-take}
@@ -148,37 +148,37 @@ module _ (i : Instance) (t : Truck) (on : List Stack) (ends : (s : Stack) → In
       ∙ sum-same _ (toRear i t) on stack-rear
 
   -- 27
-  middle-reads : (middleFits i t on ≡ true)
+  middle-reads : (middleAxleHolds i t on ≡ true)
       ↔ ((sumℤ (toMiddle i t) on +ℤ pos 2 *ℤ pos (EM t) *ℤ pos (EJcr t) *ℤ pos (CJfh t) +ℤ pos 2 *ℤ pos (EJhr t) *ℤ pos (CM t) *ℤ pos (CJfc t))
       ≤ℤ (pos 2 *ℤ pos (EJhr t) *ℤ pos (CJfm t) *ℤ pos (EMmm t)))
-  unfolding middleFits H
+  unfolding middleAxleHolds H
   middle-reads =
       rw (middle-all (EJhr t) (CM t) (CJfc t) (CJfh t) (EM t) (EJcr t) (sumℤ (lever i t) on), middle-sum) (leZ-reads _ _)
 
   -- 28
-  rear-reads : (rearFits i t on ≡ true)
+  rear-reads : (rearAxleHolds i t on ≡ true)
       ↔ ((sumℤ (toRear i t) on +ℤ pos 2 *ℤ pos (EM t) *ℤ (pos (EJhr t) -ℤ pos (EJcr t))) ≤ℤ (pos 2 *ℤ pos (EJhr t) *ℤ pos (EMmr t)))
-  unfolding rearFits H
+  unfolding rearAxleHolds H
   rear-reads = rw (rear-all (EJhr t) (EM t) (EJcr t) (weightOn i on) (sumℤ (lever i t) on), rear-sum) (leZ-reads _ _)
 
 -- ---- 26 overload
 module _ (i : Instance) (p : List Stack) where
-  weight-reads : (s : Stack) → (loadFits i (truckOf i s) (stacksOn p (usedBy s)) ≡ true)
+  weight-reads : (s : Stack) → (withinLoadLimit i (truckOf i s) (stacksOn p (usedBy s)) ≡ true)
       ↔ (sumWhere (onTruckOf s) (λ r. weightOf i (r .load)) p ≤ℤ pos (TMm (truckOf i s)))
-  unfolding loadFits weightOn stacksOn
+  unfolding withinLoadLimit weightOn stacksOn
   weight-reads s =
       let on = filter (onTruckOf s) p in
       let signed : sumWhere (onTruckOf s) (λ r. weightOf i (r .load)) p ≡ pos (sum (sm i) on) =
       sym (sum-picked (onTruckOf s) (λ r. weightOf i (r .load)) p) ∙ sum-same _ _ on (λ r m. weight-signed i (r .load)) ∙ sum-signed (sm i) on in
       rw signed (iff-trans (le-reads (sum (sm i) on) (TMm (truckOf i s))) (iff-sym (le-signed (sum (sm i) on) (TMm (truckOf i s)))))
 
-  pub weights-exactly : (truckPlaces loadFits i p ≡ [])
+  pub weights-exactly : (truckPlaces withinLoadLimit i p ≡ [])
       ↔ ((s : Stack) → In s p → sumWhere (onTruckOf s) (λ r. weightOf i (r .load)) p ≤ℤ pos (TMm (truckOf i s)))
   weights-exactly = (
-    (λ e s m. weight-reads s .0 (trucks-kept i p loadFits .0 e (usedBy s) (in-used p (usedBy s) .1 (s, m, refl)))),
-    (λ f. trucks-kept i p loadFits .1 (λ u m.
+    (λ e s m. weight-reads s .0 (trucks-kept i p withinLoadLimit .0 e (usedBy s) (in-used p (usedBy s) .1 (s, m, refl)))),
+    (λ f. trucks-kept i p withinLoadLimit .1 (λ u m.
         let w = in-used p u .0 m in
-        subst (λ (v : UsedTruck). loadFits i (truckNumbered i (v .truck)) (stacksOn p v) ≡ true) (sym (w .2)) (weight-reads (w .0) .1 (f (w .0) (w .1))))),
+        subst (λ (v : UsedTruck). withinLoadLimit i (truckNumbered i (v .truck)) (stacksOn p v) ≡ true) (sym (w .2)) (weight-reads (w .0) .1 (f (w .0) (w .1))))),
   )
 
 -- ---- 27 and 28
@@ -189,8 +189,8 @@ module _ (i : Instance) (p : List Stack) (sound : Sound i p) where
 
   -- 27 and 28 at one departure of the used truck of s
   bears-reads : (s : Stack) (k : ℕ)
-      → ((middleFits i (truckOf i s) (stacksAt i p (usedBy s) k) ≡ true) × (rearFits i (truckOf i s) (stacksAt i p (usedBy s) k) ≡ true))
-      ↔ AxlesBear i p s k (truckOf i s)
+      → ((middleAxleHolds i (truckOf i s) (stacksAt i p (usedBy s) k) ≡ true) × (rearAxleHolds i (truckOf i s) (stacksAt i p (usedBy s) k) ≡ true))
+      ↔ AxleLoadsWithin i p s k (truckOf i s)
   bears-reads s k =
       let t = truckOf i s in
       let on = filter (onAt i s k) p in
@@ -233,13 +233,13 @@ module _ (i : Instance) (p : List Stack) (sound : Sound i p) where
           (f (r .0) (h .0) k (d .0) (rw same (d .1)) itself)
 
   -- 27 middle and 28 rear
-  pub levers-exactly : ((departurePlaces middleFits i p ≡ []) × (departurePlaces rearFits i p ≡ []))
-      ↔ ((s : Stack) → In s p → (k : ℕ) → 1 ≤ k → k ≤ length (truckOf i s .suppliers) → onAt i s k s ≡ true → AxlesBear i p s k (truckOf i s))
+  pub levers-exactly : ((departurePlaces middleAxleHolds i p ≡ []) × (departurePlaces rearAxleHolds i p ≡ []))
+      ↔ ((s : Stack) → In s p → (k : ℕ) → 1 ≤ k → k ≤ length (truckOf i s .suppliers) → onAt i s k s ≡ true → AxleLoadsWithin i p s k (truckOf i s))
   levers-exactly = (
     (λ h s m k lo hi on.
-        bears-reads s k .0 (departure-reads middleFits .0 (h .0) s m k lo hi on, departure-reads rearFits .0 (h .1) s m k lo hi on)),
+        bears-reads s k .0 (departure-reads middleAxleHolds .0 (h .0) s m k lo hi on, departure-reads rearAxleHolds .0 (h .1) s m k lo hi on)),
     (λ f. (
-      departure-reads middleFits .1 (λ s m k lo hi on. bears-reads s k .1 (f s m k lo hi on) .0),
-      departure-reads rearFits .1 (λ s m k lo hi on. bears-reads s k .1 (f s m k lo hi on) .1),
+      departure-reads middleAxleHolds .1 (λ s m k lo hi on. bears-reads s k .1 (f s m k lo hi on) .0),
+      departure-reads rearAxleHolds .1 (λ s m k lo hi on. bears-reads s k .1 (f s m k lo hi on) .1),
     )),
   )

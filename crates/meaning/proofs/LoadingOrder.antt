@@ -12,8 +12,8 @@ use lib.ListN.{getD}
 use Rattle.meaning.specs.Lists.{In, Every, distinct, orderIn}
 use Rattle.meaning.specs.Model.{Instance, Truck, Stack, item, truckNumbered, truckOf, number, x, IG, IU, IK}
 use Rattle.meaning.specs.Measures.{bottom, docksOf, supplierOrder, supplierDockOrder, plantDockOrder}
-use Rattle.meaning.specs.Rules.{pairPlaces, docksUpTo, precedes, inOrder}
-use Rattle.meaning.specs.Feasible.{OneTruck, Stands, Earlier, NotLater, ItemFits, MustPrecede, bySupplier, byDock, byPlantDock}
+use Rattle.meaning.specs.Rules.{pairPlaces, docksNotAfter, loadsBefore, inLoadingOrder}
+use Rattle.meaning.specs.Feasible.{SameTruck, Stands, Earlier, NotLater, ItemFits, MustPrecede, bySupplier, byDock, byPlantDock}
 use Rattle.meaning.proofs.Tests.{true≢false, and-reads, or-reads, not-reads, le-reads, lt-reads}
 use Rattle.meaning.proofs.Lists.{all-reads}
 use Rattle.meaning.proofs.Orders.{order-stands, stands-order, placed-reads, row-at}
@@ -48,8 +48,8 @@ fits-listed i s sound fits =
 
 -- every plant dock order of s is at most every one of r, on a truck t
 up-to : (i : Instance) (t : Truck) (s r : Stack) → distinct (t .plantDocks) ≡ true → truckOf i s ≡ t → truckOf i r ≡ t → Listed i t s → Listed i t r
-    → (docksUpTo i s r ≡ true) ↔ ((n m : ℕ) → In n (s .load) → In m (r .load) → NotLater (t .plantDocks) (IG (item i n)) (IG (item i m)))
-unfolding docksUpTo
+    → (docksNotAfter i s r ≡ true) ↔ ((n m : ℕ) → In n (s .load) → In m (r .load) → NotLater (t .plantDocks) (IG (item i n)) (IG (item i m)))
+unfolding docksNotAfter
 up-to i t s r d es er a b = (
   (λ e n m k l. order n m k l .0 (all-reads _ (r .load) .0 (all-reads _ (s .load) .0 e n k) m l)),
   (λ f. all-reads _ (s .load) .1 (λ n k. all-reads _ (r .load) .1 (λ m l. order n m k l .1 (f n m k l)))),
@@ -93,10 +93,10 @@ module _ (i : Instance) (s r : Stack) (sound : SoundStack i s) (same : truckOf i
       rw row (placed-reads ltb _<_ lt-reads (docksOf t (IU (bottom i s))) d (IK (bottom i s)) (IK (bottom i r)) (a .dock) there)
 
   -- (3), and its reverse
-  upTo : (docksUpTo i s r ≡ true) ↔ ((n m : ℕ) → In n (s .load) → In m (r .load) → NotLater (t .plantDocks) (IG (item i n)) (IG (item i m)))
+  upTo : (docksNotAfter i s r ≡ true) ↔ ((n m : ℕ) → In n (s .load) → In m (r .load) → NotLater (t .plantDocks) (IG (item i n)) (IG (item i m)))
   upTo = up-to i t s r (sound .plantDocks) refl same a b
 
-  downTo : (docksUpTo i r s ≡ true) ↔ ((n m : ℕ) → In n (s .load) → In m (r .load) → NotLater (t .plantDocks) (IG (item i m)) (IG (item i n)))
+  downTo : (docksNotAfter i r s ≡ true) ↔ ((n m : ℕ) → In n (s .load) → In m (r .load) → NotLater (t .plantDocks) (IG (item i m)) (IG (item i n)))
   downTo = let h = up-to i t r s (sound .plantDocks) same refl b a in ((λ e n m k l. h .0 e m n l k), (λ f. h .1 (λ m n l k. f n m k l)))
 
   -- the cases as the test has them
@@ -104,7 +104,7 @@ module _ (i : Instance) (s r : Stack) (sound : SoundStack i s) (same : truckOf i
   caseDock = sameSupplier && smallerDock
 
   abbrev casePlantDock : Bool
-  casePlantDock = sameSupplier && sameDock && docksUpTo i s r && not (docksUpTo i r s)
+  casePlantDock = sameSupplier && sameDock && docksNotAfter i s r && not (docksNotAfter i r s)
 
   from-dock : caseDock ≡ true → MustPrecede i s r
   from-dock e =
@@ -116,28 +116,28 @@ module _ (i : Instance) (s r : Stack) (sound : SoundStack i s) (same : truckOf i
 
   from-plantDock : casePlantDock ≡ true → MustPrecede i s r
   from-plantDock e =
-      let h = and-reads (sameSupplier && sameDock && docksUpTo i s r) (not (docksUpTo i r s)) .0 e in
-      let k = and-reads (sameSupplier && sameDock) (docksUpTo i s r) .0 (h .0) in
+      let h = and-reads (sameSupplier && sameDock && docksNotAfter i s r) (not (docksNotAfter i r s)) .0 e in
+      let k = and-reads (sameSupplier && sameDock) (docksNotAfter i s r) .0 (h .0) in
       let l = and-reads sameSupplier sameDock .0 (k .0) in
-      byPlantDock (eqb-true _ _ (l .0)) (eqb-true _ _ (l .1)) (upTo .0 (k .1)) (λ f. not-reads (docksUpTo i r s) .0 (h .1) (downTo .1 f))
+      byPlantDock (eqb-true _ _ (l .0)) (eqb-true _ _ (l .1)) (upTo .0 (k .1)) (λ f. not-reads (docksNotAfter i r s) .0 (h .1) (downTo .1 f))
 
   -- any case is enough for the test
-  passes : ((smallerSupplier ≡ true) ⊎ (caseDock ≡ true)) ⊎ (casePlantDock ≡ true) → precedes i s r ≡ true
-  unfolding precedes
+  passes : ((smallerSupplier ≡ true) ⊎ (caseDock ≡ true)) ⊎ (casePlantDock ≡ true) → loadsBefore i s r ≡ true
+  unfolding loadsBefore
   passes h = or-reads (smallerSupplier || caseDock) casePlantDock .1 (⊎-elim (λ k. inl (or-reads smallerSupplier caseDock .1 k)) inr h)
 
-  to-precedes : MustPrecede i s r → precedes i s r ≡ true
+  to-precedes : MustPrecede i s r → loadsBefore i s r ≡ true
   to-precedes (bySupplier e) = passes (inl (inl (by-supplier .1 e)))
   to-precedes (byDock k u at e) =
       passes (inl (inr (and-reads sameSupplier smallerDock .1 (eq-eqb _ _ u, by-dock u .1 (rw (docks-at t (IU (bottom i s)) k (sound .suppliers) at) e)))))
   to-precedes (byPlantDock u k f g) =
-      passes (inr (and-reads (sameSupplier && sameDock && docksUpTo i s r) (not (docksUpTo i r s)) .1 (
-        and-reads (sameSupplier && sameDock) (docksUpTo i s r) .1 (and-reads sameSupplier sameDock .1 (eq-eqb _ _ u, eq-eqb _ _ k), upTo .1 f),
-        not-reads (docksUpTo i r s) .1 (λ e. g (downTo .0 e)),
+      passes (inr (and-reads (sameSupplier && sameDock && docksNotAfter i s r) (not (docksNotAfter i r s)) .1 (
+        and-reads (sameSupplier && sameDock) (docksNotAfter i s r) .1 (and-reads sameSupplier sameDock .1 (eq-eqb _ _ u, eq-eqb _ _ k), upTo .1 f),
+        not-reads (docksNotAfter i r s) .1 (λ e. g (downTo .0 e)),
       )))
 
-  precedes-reads : (precedes i s r ≡ true) ↔ MustPrecede i s r
-  unfolding precedes
+  precedes-reads : (loadsBefore i s r ≡ true) ↔ MustPrecede i s r
+  unfolding loadsBefore
   precedes-reads = (
     (λ e.
         ⊎-elim (λ h. ⊎-elim (λ k. bySupplier (by-supplier .0 k)) from-dock (or-reads smallerSupplier caseDock .0 h)) from-plantDock
@@ -152,7 +152,7 @@ order-reads false c = ((λ e k. absurd (true≢false (sym k))), (λ f. refl))
 
 module _ (i : Instance) (p : List Stack) (sound : Sound i p) (fits : (s : Stack) → In s p → (n : ℕ) → In n (s .load) → ItemFits i s n) where
   -- P4 for two stacks of one used truck
-  must-precede : (s r : Stack) → In s p → In r p → OneTruck s r → (precedes i s r ≡ true) ↔ MustPrecede i s r
+  must-precede : (s r : Stack) → In s p → In r p → SameTruck s r → (loadsBefore i s r ≡ true) ↔ MustPrecede i s r
   must-precede s r m n o =
       let same : truckOf i r ≡ truckOf i s = ap (truckNumbered i) (sym (o .truck)) in
       let b : Listed i (truckOf i s) r = subst (λ (w : Truck). Listed i w r) same (fits-listed i r (sound .stacks r n) (fits r n)) in
@@ -166,11 +166,11 @@ module _ (i : Instance) (p : List Stack) (sound : Sound i p) (fits : (s : Stack)
       go (yes e) = let z : x s ≡ x r = ap x (sound .known s r m n e) in omega (arith, z)
       go (no d) = f d
 
-  pub order-exactly : (pairPlaces inOrder i p ≡ []) ↔ ((s r : Stack) → In s p → In r p → OneTruck s r → MustPrecede i s r → x s ≤ x r)
+  pub order-exactly : (pairPlaces inLoadingOrder i p ≡ []) ↔ ((s r : Stack) → In s p → In r p → SameTruck s r → MustPrecede i s r → x s ≤ x r)
   order-exactly = (
     (λ e s r m n o k.
         in-order s r m n (λ d.
-        leb-true _ _ (order-reads (precedes i s r) (leb (x s) (x r)) .0 (pairs-kept i p inOrder .0 e s r m n o d) (must-precede s r m n o .1 k)))),
-    (λ f. pairs-kept i p inOrder .1 (λ s r m n o d.
-        order-reads (precedes i s r) (leb (x s) (x r)) .1 (λ e. le-leb _ _ (f s r m n o (must-precede s r m n o .0 e))))),
+        leb-true _ _ (order-reads (loadsBefore i s r) (leb (x s) (x r)) .0 (pairs-kept i p inLoadingOrder .0 e s r m n o d) (must-precede s r m n o .1 k)))),
+    (λ f. pairs-kept i p inLoadingOrder .1 (λ s r m n o d.
+        order-reads (loadsBefore i s r) (leb (x s) (x r)) .1 (λ e. le-leb _ _ (f s r m n o (must-precede s r m n o .0 e))))),
   )

@@ -8,7 +8,7 @@ use Rattle.meaning.specs.declared.Limits.{Limits}
 use Rattle.meaning.specs.Lists.{Every}
 use Rattle.meaning.specs.Limits.{named}
 use Rattle.meaning.specs.Model.{Instance, Stack}
-use Rattle.meaning.specs.Rules.{rules, itemRules, stackRules, placementRules, weightRules, docksFit, dockCount}
+use Rattle.meaning.specs.Rules.{rules, itemRules, stackRules, placementRules, weightRules, plantDocksAllowed, plantDockCount}
 use Rattle.meaning.specs.Verdict.{verdictOn}
 use Rattle.meaning.specs.Check.{readable, readFiles, answerTo, answer}
 use Rattle.meaning.specs.Feasible.{Feasible}
@@ -66,7 +66,7 @@ module _ (i : Instance) (p : List Stack) (sound : Sound i p) where
               once = once-exactly i p .0 (h .items .0);
               items = fits;
               stacks = stacks;
-              onePair = pairs-exactly i p (stacks-kept i p docksFit dockCount .0 (s .1 .0)) .0 (s .1 .1 .0);
+              singlePair = pairs-exactly i p (stacks-kept i p plantDocksAllowed plantDockCount .0 (s .1 .0)) .0 (s .1 .1 .0);
               heights = λ r m. inside r m .2;
               weights = weights-exactly i p .0 (h .weights .0);
               order = order-exactly i p sound fits .0 (q .1 .1 .1 .0);
@@ -83,7 +83,7 @@ module _ (i : Instance) (p : List Stack) (sound : Sound i p) where
       let r = f .rules in
       let a = items-exactly i p sound .1 (r .items) in
       let s = stacks-exactly i p sound (λ t m n k. r .items t m n k .plantDock) .1 (r .stacks) in
-      let pair = pairs-exactly i p (stacks-kept i p docksFit dockCount .0 (s .1)) .1 (r .onePair) in
+      let pair = pairs-exactly i p (stacks-kept i p plantDocksAllowed plantDockCount .0 (s .1)) .1 (r .singlePair) in
       let inside = inside-exactly i p sound .1 (λ t m. let k = on-floor-exactly i p sound t m .1 (f .onFloor t m) in (k .0, k .1, r .heights t m)) in
       let axles = levers-exactly i p sound .1 (f .levers) in
       record {

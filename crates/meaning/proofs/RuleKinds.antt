@@ -10,7 +10,7 @@ use Rattle.meaning.specs.Lists.{In}
 use Rattle.meaning.specs.Model.{Instance, Truck, Stack, Item, item, truckNumbered, number, truck, copy}
 use Rattle.meaning.specs.Measures.{UsedTruck, sameUsed, another, usedTrucks, stacksOn, departures, stacksAt}
 use Rattle.meaning.specs.Rules.{itemPlaces, stackPlaces, pairPlaces, truckPlaces, departurePlaces, counts}
-use Rattle.meaning.specs.Feasible.{OneTruck, onTruckOf}
+use Rattle.meaning.specs.Feasible.{SameTruck, onTruckOf}
 use Rattle.meaning.proofs.Tests.{true≢false, and-reads, not-reads, eq-reads, iff-trans, iff-both}
 use Rattle.meaning.proofs.Lists.{flatMap-none, unless-none, among-none}
 
@@ -23,13 +23,13 @@ used-reads u v =
       (λ e. (ap (λ (w : UsedTruck). w .truck) e, ap (λ (w : UsedTruck). w .copy) e)),
     ))
 
-pub one-truck : (s r : Stack) → (onTruckOf s r ≡ true) ↔ OneTruck s r
+pub one-truck : (s r : Stack) → (onTruckOf s r ≡ true) ↔ SameTruck s r
 one-truck s r = (
   (λ e. let k = and-reads (eqb (truck s) (truck r)) (eqb (copy s) (copy r)) .0 e in record { truck = eqb-true _ _ (k .0); copy = eqb-true _ _ (k .1) }),
   (λ h. and-reads (eqb (truck s) (truck r)) (eqb (copy s) (copy r)) .1 (eq-eqb _ _ (h .truck), eq-eqb _ _ (h .copy))),
 )
 
-pub another-reads : (s r : Stack) → (another s r ≡ true) ↔ (OneTruck s r × (number s ≡ number r → ⊥))
+pub another-reads : (s r : Stack) → (another s r ≡ true) ↔ (SameTruck s r × (number s ≡ number r → ⊥))
 another-reads s r = (
   (λ e.
       let k = and-reads (onTruckOf s r) (not (eqb (number s) (number r))) .0 e in
@@ -63,7 +63,7 @@ module _ (i : Instance) (p : List Stack) where
   )
 
   pub pairs-kept : (kept : Instance → Stack → Stack → Bool)
-      → (pairPlaces kept i p ≡ []) ↔ ((s r : Stack) → In s p → In r p → OneTruck s r → (number s ≡ number r → ⊥) → kept i s r ≡ true)
+      → (pairPlaces kept i p ≡ []) ↔ ((s r : Stack) → In s p → In r p → SameTruck s r → (number s ≡ number r → ⊥) → kept i s r ≡ true)
   unfolding pairPlaces
   pairs-kept kept = (
     (λ e s r m n o d. among-none (another s r) (kept i s r) _ .0 (flatMap-none _ p .0 (flatMap-none _ p .0 e s m) r n) (another-reads s r .1 (o, d))),

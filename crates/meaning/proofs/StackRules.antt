@@ -13,9 +13,9 @@ use lib.ListN.{length, getD}
 use Rattle.meaning.specs.Lists.{In, distinct, orderIn}
 use Rattle.meaning.specs.Model.{Instance, Truck, Stack, Item, item, truckOf, number, orientation, IL, IW, IS, ISM, IO, IP, IG, IU, IK, TMM, TF, TEM}
 use Rattle.meaning.specs.Measures.{above, sm, plantDocksOf}
-use Rattle.meaning.specs.Rules.{itemPlaces, stackPlaces, pairPlaces, alike, dockCount, consecutive, docksFit, onePair, turnedRight}
-use Rattle.meaning.specs.Rules.{weightAbove, topLight, itemCount, fewEnough, densityFits}
-use Rattle.meaning.specs.Feasible.{OneTruck, base, Stands, ItemStacks, OneDock, TwoDocks, weightOf, StackFits, HasTwoDocks}
+use Rattle.meaning.specs.Rules.{itemPlaces, stackPlaces, pairPlaces, stackable, plantDockCount, consecutive, plantDocksAllowed, singlePair, orientationKept}
+use Rattle.meaning.specs.Rules.{weightAbove, topWeightWithin, itemCount, stackabilityKept, densityWithin}
+use Rattle.meaning.specs.Feasible.{SameTruck, base, Stands, ItemStacks, OneDock, TwoDocks, weightOf, StackFits, HasTwoDocks}
 use Rattle.meaning.proofs.Tests.{true≢false, and-reads, or-reads, not-reads, le-reads, eq-reads, iff-trans, iff-sym, iff-both, iff-either}
 use Rattle.meaning.proofs.Lists.{NoRepeat, in-dedup, dedup-noRepeat, in-map}
 use Rattle.meaning.proofs.Orders.{order-stands, stands-order}
@@ -127,7 +127,7 @@ module _ (i : Instance) (s : Stack) where
   dock-in n m = in-docks (IG (item i n)) .1 (n, m, refl)
 
   -- one dock at most: all items are for the same
-  one-dock : (dockCount i s ≤ 1) ↔ OneDock i s
+  one-dock : (plantDockCount i s ≤ 1) ↔ OneDock i s
   one-dock = (
     (λ h. record { dock = λ n m k l. all-equal docks docks-distinct .0 h (IG (item i n)) (IG (item i m)) (dock-in n k) (dock-in m l) }),
     (λ h. all-equal docks docks-distinct .1 (λ a b k l.
@@ -137,10 +137,10 @@ module _ (i : Instance) (s : Stack) where
   )
 
   -- the two ways to keep 16: one dock, or TF = 1 and two that follow one another
-  fits-reads : (p : List Stack) → (docksFit i p s ≡ true) ↔ ((dockCount i s ≤ 1) ⊎ ((TF on ≡ 1) × Follow order docks))
+  fits-reads : (p : List Stack) → (plantDocksAllowed i p s ≡ true) ↔ ((plantDockCount i s ≤ 1) ⊎ ((TF on ≡ 1) × Follow order docks))
   fits-reads p =
-      iff-trans (or-reads (leb (dockCount i s) 1) (eqb (TF on) 1 && follow))
-      (iff-either (le-reads (dockCount i s) 1) (iff-trans (and-reads (eqb (TF on) 1) follow) (iff-both (eq-reads (TF on) 1) (consecutive-reads order docks))))
+      iff-trans (or-reads (leb (plantDockCount i s) 1) (eqb (TF on) 1 && follow))
+      (iff-either (le-reads (plantDockCount i s) 1) (iff-trans (and-reads (eqb (TF on) 1) follow) (iff-both (eq-reads (TF on) 1) (consecutive-reads order docks))))
     where
       follow : Bool
       follow = consecutive (map order docks)
@@ -171,7 +171,7 @@ module _ (i : Instance) (s : Stack) where
         (w .3)
 
     -- back: the places of the docks are their loading orders, for the truck lists no dock twice; both docks need not be in use
-    two-follow : distinct (on .plantDocks) ≡ true → TwoDocks i s → (dockCount i s ≤ 1) ⊎ Follow order docks
+    two-follow : distinct (on .plantDocks) ≡ true → TwoDocks i s → (plantDockCount i s ≤ 1) ⊎ Follow order docks
     two-follow d h =
         ⊎-elim (λ k. inl k)
         (⊎-elim (λ e. inr (h .first, h .second, e, inl next)) (λ e. inr (h .second, h .first, e, inr next)))
@@ -185,7 +185,7 @@ module _ (i : Instance) (s : Stack) where
             ∙ sym (stands-order (on .plantDocks) (h .second) (suc (h .k)) d (h .atSecond))
 
     -- 16: the test against the picture
-    docks-exactly : distinct (on .plantDocks) ≡ true → (p : List Stack) → (docksFit i p s ≡ true) ↔ (OneDock i s ⊎ ((TF on ≡ 1) × TwoDocks i s))
+    docks-exactly : distinct (on .plantDocks) ≡ true → (p : List Stack) → (plantDocksAllowed i p s ≡ true) ↔ (OneDock i s ⊎ ((TF on ≡ 1) × TwoDocks i s))
     docks-exactly d p = (
       (λ e. ⊎-elim (λ h. inl (one-dock .0 h)) (λ h. inr (h .0, follow-two (h .1))) (fits-reads p .0 e)),
       ⊎-elim (λ h. fits-reads p .1 (inl (one-dock .1 h))) (λ h. fits-reads p .1 (⊎-elim (λ k. inl k) (λ k. inr (h .0, k)) (two-follow d (h .1)))),
@@ -206,7 +206,7 @@ all-five a b c d e = (
 
 -- 15: an item is like the bottom item
 alike-reads : (i : Instance) (s : Stack) (a : Item)
-    → (alike i s a ≡ true)
+    → (stackable i s a ≡ true)
     ↔ ((IU a ≡ IU (base i s)) × (IP a ≡ IP (base i s)) × (IS a ≡ IS (base i s)) × (ISM a ≡ ISM (base i s)) × (IK a ≡ IK (base i s)))
 alike-reads i s a = (
   (λ e. let h = five .0 e in (eqb-true _ _ (h .0), eqb-true _ _ (h .1), eqb-true _ _ (h .2), eqb-true _ _ (h .3), eqb-true _ _ (h .4))),
@@ -216,35 +216,35 @@ alike-reads i s a = (
     b : Item
     b = base i s
 
-    five : (alike i s a ≡ true)
+    five : (stackable i s a ≡ true)
         ↔ ((eqb (IU a) (IU b) ≡ true) × (eqb (IP a) (IP b) ≡ true) × (eqb (IS a) (IS b) ≡ true) × (eqb (ISM a) (ISM b) ≡ true) × (eqb (IK a) (IK b) ≡ true))
     five = all-five (eqb (IU a) (IU b)) (eqb (IP a) (IP b)) (eqb (IS a) (IS b)) (eqb (ISM a) (ISM b)) (eqb (IK a) (IK b))
 
 -- 18: a forced orientation is the stack's
-turned-reads : (i : Instance) (s : Stack) (a : Item) → (turnedRight i s a ≡ true) ↔ ((IO a ≡ 0) ⊎ (IO a ≡ orientation s))
+turned-reads : (i : Instance) (s : Stack) (a : Item) → (orientationKept i s a ≡ true) ↔ ((IO a ≡ 0) ⊎ (IO a ≡ orientation s))
 turned-reads i s a = iff-trans (or-reads (eqb (IO a) 0) (eqb (IO a) (orientation s))) (iff-either (eq-reads (IO a) 0) (eq-reads (IO a) (orientation s)))
 
 -- 19: signed or not, the weight above the bottom item is the same number
-top-exactly : (i : Instance) (p : List Stack) (s : Stack) → (topLight i p s ≡ true) ↔ (weightOf i (above s) ≤ℤ pos (TMM (truckOf i s)))
+top-exactly : (i : Instance) (p : List Stack) (s : Stack) → (topWeightWithin i p s ≡ true) ↔ (weightOf i (above s) ≤ℤ pos (TMM (truckOf i s)))
 top-exactly i p s =
-    subst (λ (z : ℤ). (topLight i p s ≡ true) ↔ (z ≤ℤ pos (TMM (truckOf i s)))) (sym (weight-signed i (above s)))
+    subst (λ (z : ℤ). (topWeightWithin i p s ≡ true) ↔ (z ≤ℤ pos (TMM (truckOf i s)))) (sym (weight-signed i (above s)))
     (iff-trans (le-reads (weightAbove i s) (TMM (truckOf i s))) (iff-sym (le-signed (weightAbove i s) (TMM (truckOf i s)))))
 
 -- 21: so is the stack's weight
 density-exactly : (i : Instance) (p : List Stack) (s : Stack)
-    → (densityFits i p s ≡ true)
+    → (densityWithin i p s ≡ true)
     ↔ ((weightOf i (s .load) *ℤ pos 1000000) ≤ℤ (pos (TEM (truckOf i s)) *ℤ pos (IL (base i s)) *ℤ pos (IW (base i s))))
 density-exactly i p s =
     let limit = TEM (truckOf i s) * IL (base i s) * IW (base i s) in
-    subst (λ (z : ℤ). (densityFits i p s ≡ true) ↔ ((z *ℤ pos 1000000) ≤ℤ pos limit)) (sym (weight-signed i (s .load)))
+    subst (λ (z : ℤ). (densityWithin i p s ≡ true) ↔ ((z *ℤ pos 1000000) ≤ℤ pos limit)) (sym (weight-signed i (s .load)))
     (iff-trans (le-reads (sm i s * 1000000) limit) (iff-sym (le-signed (sm i s * 1000000) limit)))
 
 -- 15, 18 and 20
 module _ (i : Instance) (p : List Stack) (s : Stack) where
   -- the bottom item's limit on the number of items is by 15 every item's
-  items-stack : ((n : ℕ) → In n (s .load) → alike i s (item i n) ≡ true)
-      → ((n : ℕ) → In n (s .load) → turnedRight i s (item i n) ≡ true)
-      → fewEnough i p s ≡ true
+  items-stack : ((n : ℕ) → In n (s .load) → stackable i s (item i n) ≡ true)
+      → ((n : ℕ) → In n (s .load) → orientationKept i s (item i n) ≡ true)
+      → stackabilityKept i p s ≡ true
       → (n : ℕ) → In n (s .load) → ItemStacks i s n
   items-stack same turned few n m =
       let h = alike-reads i s (item i n) .0 (same n m) in
@@ -258,45 +258,45 @@ module _ (i : Instance) (p : List Stack) (s : Stack) where
         notTooMany = subst (λ (z : ℕ). length (s .load) ≤ z) (sym (h .3)) (leb-true (length (s .load)) (ISM (base i s)) few);
       }
 
-  stack-alike : StackFits i s → (n : ℕ) → In n (s .load) → alike i s (item i n) ≡ true
+  stack-alike : StackFits i s → (n : ℕ) → In n (s .load) → stackable i s (item i n) ≡ true
   stack-alike h n m = let k = h .items n m in alike-reads i s (item i n) .1 (k .supplier, k .plant, k .code, k .maximal, k .dock)
 
   -- back: the bottom item is one of them
-  stack-few : SoundStack i s → StackFits i s → fewEnough i p s ≡ true
+  stack-few : SoundStack i s → StackFits i s → stackabilityKept i p s ≡ true
   stack-few sound h = le-leb (length (s .load)) (ISM (base i s)) (h .items (getD (s .load) 0 0) (sound .some) .notTooMany)
 
 -- 15, 16 and 18 to 21: each stack fits its truck
 pub stacks-exactly : (i : Instance) (p : List Stack) → Sound i p
     → ((s : Stack) → In s p → (n : ℕ) → In n (s .load) → In (IG (item i n)) (truckOf i s .plantDocks))
-    → ((itemPlaces alike i p ≡ []) × (stackPlaces docksFit dockCount i p ≡ []) × (itemPlaces turnedRight i p ≡ []) × (stackPlaces topLight weightAbove i p ≡ [])
-    × (stackPlaces fewEnough itemCount i p ≡ []) × (stackPlaces densityFits sm i p ≡ []))
+    → ((itemPlaces stackable i p ≡ []) × (stackPlaces plantDocksAllowed plantDockCount i p ≡ []) × (itemPlaces orientationKept i p ≡ []) × (stackPlaces topWeightWithin weightAbove i p ≡ [])
+    × (stackPlaces stackabilityKept itemCount i p ≡ []) × (stackPlaces densityWithin sm i p ≡ []))
     ↔ ((s : Stack) → In s p → StackFits i s)
 stacks-exactly i p sound docked = (
   (λ h s m. record {
-    items = items-stack i p s (items-kept i p alike .0 (h .0) s m) (items-kept i p turnedRight .0 (h .2) s m) (stacks-kept i p fewEnough itemCount .0 (h .4) s m);
-    docks = docks-exactly i s (docked s m) (sound .stacks s m .plantDocks) p .0 (stacks-kept i p docksFit dockCount .0 (h .1) s m);
-    topWeight = top-exactly i p s .0 (stacks-kept i p topLight weightAbove .0 (h .3) s m);
-    density = density-exactly i p s .0 (stacks-kept i p densityFits sm .0 (h .5) s m);
+    items = items-stack i p s (items-kept i p stackable .0 (h .0) s m) (items-kept i p orientationKept .0 (h .2) s m) (stacks-kept i p stackabilityKept itemCount .0 (h .4) s m);
+    docks = docks-exactly i s (docked s m) (sound .stacks s m .plantDocks) p .0 (stacks-kept i p plantDocksAllowed plantDockCount .0 (h .1) s m);
+    topWeight = top-exactly i p s .0 (stacks-kept i p topWeightWithin weightAbove .0 (h .3) s m);
+    density = density-exactly i p s .0 (stacks-kept i p densityWithin sm .0 (h .5) s m);
   }),
   (λ f. (
-    items-kept i p alike .1 (λ s m. stack-alike i p s (f s m)),
-    stacks-kept i p docksFit dockCount .1 (λ s m. docks-exactly i s (docked s m) (sound .stacks s m .plantDocks) p .1 (f s m .docks)),
-    items-kept i p turnedRight .1 (λ s m n k. turned-reads i s (item i n) .1 (f s m .items n k .turned)),
-    stacks-kept i p topLight weightAbove .1 (λ s m. top-exactly i p s .1 (f s m .topWeight)),
-    stacks-kept i p fewEnough itemCount .1 (λ s m. stack-few i p s (sound .stacks s m) (f s m)),
-    stacks-kept i p densityFits sm .1 (λ s m. density-exactly i p s .1 (f s m .density)),
+    items-kept i p stackable .1 (λ s m. stack-alike i p s (f s m)),
+    stacks-kept i p plantDocksAllowed plantDockCount .1 (λ s m. docks-exactly i s (docked s m) (sound .stacks s m .plantDocks) p .1 (f s m .docks)),
+    items-kept i p orientationKept .1 (λ s m n k. turned-reads i s (item i n) .1 (f s m .items n k .turned)),
+    stacks-kept i p topWeightWithin weightAbove .1 (λ s m. top-exactly i p s .1 (f s m .topWeight)),
+    stacks-kept i p stackabilityKept itemCount .1 (λ s m. stack-few i p s (sound .stacks s m) (f s m)),
+    stacks-kept i p densityWithin sm .1 (λ s m. density-exactly i p s .1 (f s m .density)),
   )),
 )
 
 -- ---- 17
 -- where 16 is kept, a stack has two plant docks exactly when two of its items are for different ones
-two-exactly : (i : Instance) (p : List Stack) (s : Stack) → docksFit i p s ≡ true → (dockCount i s ≡ 2) ↔ HasTwoDocks i s
+two-exactly : (i : Instance) (p : List Stack) (s : Stack) → plantDocksAllowed i p s ≡ true → (plantDockCount i s ≡ 2) ↔ HasTwoDocks i s
 two-exactly i p s kept = (differ, λ h. ⊎-elim (one h) (λ k. ap length (k .1 .2)) (fits-reads i s p .0 kept))
   where
-    one : HasTwoDocks i s → dockCount i s ≤ 1 → dockCount i s ≡ 2
+    one : HasTwoDocks i s → plantDockCount i s ≤ 1 → plantDockCount i s ≡ 2
     one h e = absurd (h .differ (one-dock i s .0 e .dock (h .first) (h .second) (h .ofFirst) (h .ofSecond)))
 
-    differ : dockCount i s ≡ 2 → HasTwoDocks i s
+    differ : plantDockCount i s ≡ 2 → HasTwoDocks i s
     differ e =
         let w = two-differ (docks i s) (docks-distinct i s) (omega (arith, e)) in
         let v = in-docks i s (w .0) .0 (w .2) in
@@ -305,33 +305,33 @@ two-exactly i p s kept = (differ, λ h. ⊎-elim (one h) (λ k. ap length (k .1 
 
 -- the test of 17, which asks for two docks of each and for one code
 pair-reads : (i : Instance) (s r : Stack)
-    → (onePair i s r ≡ true) ↔ (dockCount i s ≡ 2 → dockCount i r ≡ 2 → IS (base i s) ≡ IS (base i r) → ⊥)
+    → (singlePair i s r ≡ true) ↔ (plantDockCount i s ≡ 2 → plantDockCount i r ≡ 2 → IS (base i s) ≡ IS (base i r) → ⊥)
 pair-reads i s r = (
   (λ e a b q. not-reads (first && second && code) .0 e (three .1 ((a, b), q))),
   (λ f. not-reads (first && second && code) .1 (λ e. let h = three .0 e in f (h .0 .0) (h .0 .1) (h .1))),
 )
   where
     first : Bool
-    first = eqb (dockCount i s) 2
+    first = eqb (plantDockCount i s) 2
 
     second : Bool
-    second = eqb (dockCount i r) 2
+    second = eqb (plantDockCount i r) 2
 
     code : Bool
     code = eqb (IS (base i s)) (IS (base i r))
 
-    three : ((first && second && code) ≡ true) ↔ (((dockCount i s ≡ 2) × (dockCount i r ≡ 2)) × (IS (base i s) ≡ IS (base i r)))
+    three : ((first && second && code) ≡ true) ↔ (((plantDockCount i s ≡ 2) × (plantDockCount i r ≡ 2)) × (IS (base i s) ≡ IS (base i r)))
     three =
         iff-trans (and-reads (first && second) code)
-        (iff-both (iff-trans (and-reads first second) (iff-both (eq-reads (dockCount i s) 2) (eq-reads (dockCount i r) 2))) (eq-reads (IS (base i s)) (IS (base i r))))
+        (iff-both (iff-trans (and-reads first second) (iff-both (eq-reads (plantDockCount i s) 2) (eq-reads (plantDockCount i r) 2))) (eq-reads (IS (base i s)) (IS (base i r))))
 
 -- 17: no two stacks of one code on one used truck both have two plant docks
-pub pairs-exactly : (i : Instance) (p : List Stack) → ((s : Stack) → In s p → docksFit i p s ≡ true)
-    → (pairPlaces onePair i p ≡ [])
-    ↔ ((s r : Stack) → In s p → In r p → OneTruck s r → (number s ≡ number r → ⊥) → IS (base i s) ≡ IS (base i r) → HasTwoDocks i s → HasTwoDocks i r → ⊥)
+pub pairs-exactly : (i : Instance) (p : List Stack) → ((s : Stack) → In s p → plantDocksAllowed i p s ≡ true)
+    → (pairPlaces singlePair i p ≡ [])
+    ↔ ((s r : Stack) → In s p → In r p → SameTruck s r → (number s ≡ number r → ⊥) → IS (base i s) ≡ IS (base i r) → HasTwoDocks i s → HasTwoDocks i r → ⊥)
 pairs-exactly i p kept = (
   (λ e s r m n o d q h k.
-      pair-reads i s r .0 (pairs-kept i p onePair .0 e s r m n o d) (two-exactly i p s (kept s m) .1 h) (two-exactly i p r (kept r n) .1 k) q),
-  (λ f. pairs-kept i p onePair .1 (λ s r m n o d.
+      pair-reads i s r .0 (pairs-kept i p singlePair .0 e s r m n o d) (two-exactly i p s (kept s m) .1 h) (two-exactly i p r (kept r n) .1 k) q),
+  (λ f. pairs-kept i p singlePair .1 (λ s r m n o d.
       pair-reads i s r .1 (λ a b q. f s r m n o d q (two-exactly i p s (kept s m) .0 a) (two-exactly i p r (kept r n) .0 b)))),
 )

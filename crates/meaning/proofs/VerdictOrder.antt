@@ -12,8 +12,8 @@ use Rattle.meaning.specs.Places.{place}
 use Rattle.meaning.specs.Model.{Instance, Truck, Stack, Item, truckNumbered, number, x, EM, EJcr}
 use Rattle.meaning.specs.Measures.{UsedTruck, usedBy, sameUsed, usedTrucks, stacksOn, another, weightOn, departures, stacksAt, supplierOrder, sm, lever, H}
 use Rattle.meaning.specs.Rules.{itemPlaces, stackPlaces, pairPlaces, truckPlaces, departurePlaces, counts, timesLoaded, notOnce}
-use Rattle.meaning.specs.Rules.{plantFits, productFits, supplierFits, dayFits, docksListed, alike, docksFit, dockCount, onePair, turnedRight, topLight, weightAbove}
-use Rattle.meaning.specs.Rules.{fewEnough, itemCount, densityFits, inside, dimension, apart, braced, holds, noAmount, inOrder, loadFits, middleFits, rearFits}
+use Rattle.meaning.specs.Rules.{plantMatches, productCarried, supplierVisited, arrivesInWindow, docksServed, stackable, plantDocksAllowed, plantDockCount, singlePair, orientationKept, topWeightWithin, weightAbove}
+use Rattle.meaning.specs.Rules.{stackabilityKept, itemCount, densityWithin, inside, exceededSide, disjoint, braced, braces, noAmount, inLoadingOrder, withinLoadLimit, middleAxleHolds, rearAxleHolds}
 use Rattle.meaning.specs.Rules.{Rule, itemRules, stackRules, placementRules, weightRules, rules}
 use Rattle.meaning.specs.Verdict.{brokenOr, firstBroken, acceptance, cost, transportCost, inventoryCost, verdictOn}
 use Rattle.meaning.proofs.Tests.{same-test}
@@ -50,16 +50,16 @@ module _ (i : Instance) where
   abbrev Unordered : (Instance → Truck → List Stack → Bool) → Type 0
   Unordered kept = (t : Truck) (on on′ : List Stack) → List·Permᴰ on on′ → kept i t on ≡ kept i t on′
 
-  loadFits-perm : Unordered loadFits
-  unfolding loadFits
+  loadFits-perm : Unordered withinLoadLimit
+  unfolding withinLoadLimit
   loadFits-perm t on on′ h = rw (weightOn-perm on on′ h)
 
-  middleFits-perm : Unordered middleFits
-  unfolding middleFits
+  middleFits-perm : Unordered middleAxleHolds
+  unfolding middleAxleHolds
   middleFits-perm t on on′ h = rw (H-perm t on on′ h)
 
-  rearFits-perm : Unordered rearFits
-  unfolding rearFits
+  rearFits-perm : Unordered rearAxleHolds
+  unfolding rearAxleHolds
   rearFits-perm t on on′ h = rw (H-perm t on on′ h, weightOn-perm on on′ h)
 
 module _ (i : Instance) (p p′ : List Stack) (h : List·Permᴰ p p′) where
@@ -81,7 +81,7 @@ module _ (i : Instance) (p p′ : List Stack) (h : List·Permᴰ p p′) where
 
   -- the test of rule 24 looks at the whole plan
   braced-perm : (s : Stack) → braced i p s ≡ braced i p′ s
-  braced-perm s = ap (λ b. eqb (x s) 0 || b) (any-perm (λ (r : Stack). another s r && holds i s r) h)
+  braced-perm s = ap (λ b. eqb (x s) 0 || b) (any-perm (λ (r : Stack). another s r && braces i s r) h)
 
   cost-perm : cost i p ≡ cost i p′
   unfolding cost
@@ -128,23 +128,23 @@ module _ (i : Instance) (p p′ : List Stack) (h : List·Permᴰ p p′) where
   itemRules-same : Every SamePlaces itemRules
   unfolding itemRules
   itemRules-same =
-      notOnce-same & itemPlaces-same plantFits & itemPlaces-same productFits & itemPlaces-same supplierFits & itemPlaces-same dayFits & itemPlaces-same docksListed & tt
+      notOnce-same & itemPlaces-same plantMatches & itemPlaces-same productCarried & itemPlaces-same supplierVisited & itemPlaces-same arrivesInWindow & itemPlaces-same docksServed & tt
 
   stackRules-same : Every SamePlaces stackRules
   unfolding stackRules
   stackRules-same =
-      itemPlaces-same alike & stackPlaces-same docksFit dockCount (λ s. refl) & pairPlaces-same onePair & itemPlaces-same turnedRight
-      & stackPlaces-same topLight weightAbove (λ s. refl) & stackPlaces-same fewEnough itemCount (λ s. refl) & stackPlaces-same densityFits sm (λ s. refl) & tt
+      itemPlaces-same stackable & stackPlaces-same plantDocksAllowed plantDockCount (λ s. refl) & pairPlaces-same singlePair & itemPlaces-same orientationKept
+      & stackPlaces-same topWeightWithin weightAbove (λ s. refl) & stackPlaces-same stackabilityKept itemCount (λ s. refl) & stackPlaces-same densityWithin sm (λ s. refl) & tt
 
   placementRules-same : Every SamePlaces placementRules
   unfolding placementRules
   placementRules-same =
-      stackPlaces-same inside dimension (λ s. refl) & pairPlaces-same apart & stackPlaces-same braced noAmount braced-perm & pairPlaces-same inOrder & tt
+      stackPlaces-same inside exceededSide (λ s. refl) & pairPlaces-same disjoint & stackPlaces-same braced noAmount braced-perm & pairPlaces-same inLoadingOrder & tt
 
   weightRules-same : Every SamePlaces weightRules
   unfolding weightRules
   weightRules-same =
-      truckPlaces-same loadFits (loadFits-perm i) & departurePlaces-same middleFits (middleFits-perm i) & departurePlaces-same rearFits (rearFits-perm i) & tt
+      truckPlaces-same withinLoadLimit (loadFits-perm i) & departurePlaces-same middleAxleHolds (middleFits-perm i) & departurePlaces-same rearAxleHolds (rearFits-perm i) & tt
 
   rules-same : Every SamePlaces rules
   unfolding rules

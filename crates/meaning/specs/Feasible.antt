@@ -16,7 +16,7 @@ use Rattle.meaning.specs.Model.{TL, TW, TH, TMm, TP, TDA, TMM, TF, TEM, 
 
 -- ---- terms
 -- two stacks on one used truck, which is a truck and a copy
-pub record OneTruck (s r : Stack) : Type 0 where
+pub record SameTruck (s r : Stack) : Type 0 where
   pub truck : truck s ≡ truck r
   pub copy : copy s ≡ copy r
 
@@ -151,12 +151,12 @@ pub record RulesHold (i : Instance) (p : List Stack) : Type 0 where
   pub items : (s : Stack) → In s p → (n : ℕ) → In n (s .load) → ItemFits i s n
   pub stacks : (s : Stack) → In s p → StackFits i s
   -- 17: two stacks of one code on one used truck do not both have two plant docks
-  pub onePair : (s r : Stack) → In s p → In r p → OneTruck s r → (number s ≡ number r → ⊥) → IS (base i s) ≡ IS (base i r)
+  pub singlePair : (s r : Stack) → In s p → In r p → SameTruck s r → (number s ≡ number r → ⊥) → IS (base i s) ≡ IS (base i r)
       → HasTwoDocks i s → HasTwoDocks i r → ⊥
   pub heights : (s : Stack) → In s p → heightOf i s ≤ℤ pos (TH (truckOf i s))
   -- W1, for the used truck of each stack
   pub weights : (s : Stack) → In s p → sumWhere (onTruckOf s) (λ r. weightOf i (r .load)) p ≤ℤ pos (TMm (truckOf i s))
-  pub order : (s r : Stack) → In s p → In r p → OneTruck s r → MustPrecede i s r → x s ≤ x r
+  pub order : (s r : Stack) → In s p → In r p → SameTruck s r → MustPrecede i s r → x s ≤ x r
 
 -- ---- parts 2 and 3, floor
 -- the second of two numbers where the stack is turned widthwise (orientation 2), the first where it is not (orientation 1)
@@ -195,7 +195,7 @@ pub record Contact (i : Instance) (s r : Stack) : Type 0 where
 abbrev pub Chain : Instance → List Stack → List Stack → Type 0
 Chain i p [] = ⊥
 Chain i p (s ∷ []) = In s p × (x s ≡ 0)
-Chain i p (s ∷ r ∷ chain) = In s p × OneTruck s r × Contact i s r × Chain i p (r ∷ chain)
+Chain i p (s ∷ r ∷ chain) = In s p × SameTruck s r × Contact i s r × Chain i p (r ∷ chain)
 
 -- ---- part 5, levers
 -- "each stack on brings sm × (2A − x − xe) × CJfh to the middle axle"
@@ -212,7 +212,7 @@ onAt i s k r = onTruckOf s r && any (eqb (IU (base i r))) (take k (truckOf i s .
 
 -- "The trailer brings 2 × EM × EJcr × CJfh and 2 × EM × (EJhr − EJcr). The tractor brings 2 × EJhr × CM × CJfc to the middle only.
 -- The sums are at most 2 × EJhr × CJfm × EMmm and 2 × EJhr × EMmr"
-pub record AxlesBear (i : Instance) (p : List Stack) (s : Stack) (k : ℕ) (t : Truck) : Type 0 where
+pub record AxleLoadsWithin (i : Instance) (p : List Stack) (s : Stack) (k : ℕ) (t : Truck) : Type 0 where
   pub middle :
       (sumWhere (onAt i s k) (toMiddle i t) p
       +ℤ pos 2 *ℤ pos (EM t) *ℤ pos (EJcr t) *ℤ pos (CJfh t)
@@ -227,10 +227,10 @@ pub record AxlesBear (i : Instance) (p : List Stack) (s : Stack) (k : ℕ) (t : 
 pub record Feasible (i : Instance) (p : List Stack) : Type 0 where
   pub rules : RulesHold i p
   -- "No square lies under two stacks of one used truck": a stack is known by its number
-  pub floor : (s r : Stack) → In s p → In r p → OneTruck s r → (number s ≡ number r → ⊥) → (u v : ℕ) → Under i s u v → Under i r u v → ⊥
+  pub floor : (s r : Stack) → In s p → In r p → SameTruck s r → (number s ≡ number r → ⊥) → (u v : ℕ) → Under i s u v → Under i r u v → ⊥
   -- "Each square under a stack is on its truck's floor"
   pub onFloor : (s : Stack) → In s p → (u v : ℕ) → Under i s u v → OnFloor (truckOf i s) u v
   -- "Every stack begins one"
   pub chains : (s : Stack) → In s p → (rest : List Stack) × Chain i p (s ∷ rest)
   -- "a loaded departure is one that counts in W2": k from 1 to the truck's suppliers, with a stack on
-  pub levers : (s : Stack) → In s p → (k : ℕ) → 1 ≤ k → k ≤ length (truckOf i s .suppliers) → onAt i s k s ≡ true → AxlesBear i p s k (truckOf i s)
+  pub levers : (s : Stack) → In s p → (k : ℕ) → 1 ≤ k → k ≤ length (truckOf i s .suppliers) → onAt i s k s ≡ true → AxleLoadsWithin i p s k (truckOf i s)

@@ -65,35 +65,35 @@ unfolding flatMap upFrom timesLoaded
 notOnce i p = flatMap (λ n. onlyIf (not (eqb (timesLoaded p n) 1)) (place n (timesLoaded p n) 0)) (upFrom 1 (length (i .items)))
 
 -- 10 plant, I2: the truck goes to the item's plant
-abbrev pub plantFits : Instance → Stack → Item → Bool
-plantFits i s a = eqb (IP a) (TP (truckOf i s))
+abbrev pub plantMatches : Instance → Stack → Item → Bool
+plantMatches i s a = eqb (IP a) (TP (truckOf i s))
 
 -- 11 product, I3: the truck takes the item's product
-abbrev pub productFits : Instance → Stack → Item → Bool
-productFits i s a = listed (IR a) (truckOf i s .products)
+abbrev pub productCarried : Instance → Stack → Item → Bool
+productCarried i s a = listed (IR a) (truckOf i s .products)
 
 -- 12 supplier, I4: the truck stops at the item's supplier
-abbrev pub supplierFits : Instance → Stack → Item → Bool
-supplierFits i s a = listed (IU a) (truckOf i s .suppliers)
+abbrev pub supplierVisited : Instance → Stack → Item → Bool
+supplierVisited i s a = listed (IU a) (truckOf i s .suppliers)
 
 -- 13 day, I5: IDE ≤ TDA ≤ IDL
-abbrev pub dayFits : Instance → Stack → Item → Bool
-dayFits i s a = between (IDE a) (IDL a) (TDA (truckOf i s))
+abbrev pub arrivesInWindow : Instance → Stack → Item → Bool
+arrivesInWindow i s a = between (IDE a) (IDL a) (TDA (truckOf i s))
 
 -- 14 dock: the supplier dock is listed for the item's supplier, and the plant dock is listed
-abbrev pub docksListed : Instance → Stack → Item → Bool
-docksListed i s a = leb 1 (supplierDockOrder i s a) && leb 1 (plantDockOrder i s a)
+abbrev pub docksServed : Instance → Stack → Item → Bool
+docksServed i s a = leb 1 (supplierDockOrder i s a) && leb 1 (plantDockOrder i s a)
 
 -- ---- stack rules
 -- 15 mixed, S1: supplier, plant, code, maximal stackability and supplier dock are the bottom item's
-abbrev pub alike : Instance → Stack → Item → Bool
-alike i s a =
+abbrev pub stackable : Instance → Stack → Item → Bool
+stackable i s a =
     let b = bottom i s in
     eqb (IU a) (IU b) && eqb (IP a) (IP b) && eqb (IS a) (IS b) && eqb (ISM a) (ISM b) && eqb (IK a) (IK b)
 
 -- how many plant docks a stack has
-abbrev pub dockCount : Instance → Stack → ℕ
-dockCount i s = length (plantDocksOf i s)
+abbrev pub plantDockCount : Instance → Stack → ℕ
+plantDockCount i s = length (plantDocksOf i s)
 
 -- two loading orders that follow one another
 unfoldable pub consecutive : List ℕ → Bool
@@ -103,111 +103,111 @@ consecutive (a ∷ b ∷ []) = eqb (suc a) b || eqb (suc b) a
 consecutive (a ∷ b ∷ c ∷ l) = false
 
 -- 16 docks, S2 and S3: one plant dock; where TF = 1 also two, if they are consecutive; (stack, how many)
-abbrev pub docksFit : Instance → List Stack → Stack → Bool
-docksFit i p s = leb (dockCount i s) 1 || (eqb (TF (truckOf i s)) 1 && consecutive (map (orderIn (truckOf i s .plantDocks)) (plantDocksOf i s)))
+abbrev pub plantDocksAllowed : Instance → List Stack → Stack → Bool
+plantDocksAllowed i p s = leb (plantDockCount i s) 1 || (eqb (TF (truckOf i s)) 1 && consecutive (map (orderIn (truckOf i s .plantDocks)) (plantDocksOf i s)))
 
 -- 17 second pair, S3: two stacks of one code on a used truck do not both have two plant docks
-abbrev pub onePair : Instance → Stack → Stack → Bool
-onePair i s r = not (eqb (dockCount i s) 2 && eqb (dockCount i r) 2 && eqb (IS (bottom i s)) (IS (bottom i r)))
+abbrev pub singlePair : Instance → Stack → Stack → Bool
+singlePair i s r = not (eqb (plantDockCount i s) 2 && eqb (plantDockCount i r) 2 && eqb (IS (bottom i s)) (IS (bottom i r)))
 
 -- 18 turned, S4: a forced orientation is the stack's
-abbrev pub turnedRight : Instance → Stack → Item → Bool
-turnedRight i s a = eqb (IO a) 0 || eqb (IO a) (orientation s)
+abbrev pub orientationKept : Instance → Stack → Item → Bool
+orientationKept i s a = eqb (IO a) 0 || eqb (IO a) (orientation s)
 
 -- the weight above the bottom item
 abbrev pub weightAbove : Instance → Stack → ℕ
 weightAbove i s = weight i (above s)
 
 -- 19 top heavy, S5: the weight above the bottom item is at most TMM; (stack, that weight)
-abbrev pub topLight : Instance → List Stack → Stack → Bool
-topLight i p s = leb (weightAbove i s) (TMM (truckOf i s))
+abbrev pub topWeightWithin : Instance → List Stack → Stack → Bool
+topWeightWithin i p s = leb (weightAbove i s) (TMM (truckOf i s))
 
 -- how many items a stack has
 abbrev pub itemCount : Instance → Stack → ℕ
 itemCount i s = length (s .load)
 
 -- 20 too many, S6: no more items than the maximal stackability, which 15 makes the same for all of them; (stack, items)
-abbrev pub fewEnough : Instance → List Stack → Stack → Bool
-fewEnough i p s = leb (itemCount i s) (ISM (bottom i s))
+abbrev pub stackabilityKept : Instance → List Stack → Stack → Bool
+stackabilityKept i p s = leb (itemCount i s) (ISM (bottom i s))
 
 -- 21 dense, S7: sm × 1000000 ≤ TEM × sl × sw; (stack, sm)
-abbrev pub densityFits : Instance → List Stack → Stack → Bool
-densityFits i p s = leb (sm i s * 1000000) (TEM (truckOf i s) * sl i s * sw i s)
+abbrev pub densityWithin : Instance → List Stack → Stack → Bool
+densityWithin i p s = leb (sm i s * 1000000) (TEM (truckOf i s) * sl i s * sw i s)
 
 -- ---- placement rules
 -- xe ≤ TL
-abbrev pub lengthFits : Instance → Stack → Bool
-lengthFits i s = leb (xe i s) (TL (truckOf i s))
+abbrev pub withinLength : Instance → Stack → Bool
+withinLength i s = leb (xe i s) (TL (truckOf i s))
 
 -- ye ≤ TW
-abbrev pub widthFits : Instance → Stack → Bool
-widthFits i s = leb (ye i s) (TW (truckOf i s))
+abbrev pub withinWidth : Instance → Stack → Bool
+withinWidth i s = leb (ye i s) (TW (truckOf i s))
 
 -- height ≤ TH
-abbrev pub heightFits : Instance → Stack → Bool
-heightFits i s = leb (height i s) (heightLimit i s)
+abbrev pub withinHeight : Instance → Stack → Bool
+withinHeight i s = leb (height i s) (heightLimit i s)
 
 -- 22 outside, P1: xe ≤ TL, ye ≤ TW, height ≤ TH; (stack, the lowest dimension that does not fit)
 abbrev pub inside : Instance → List Stack → Stack → Bool
-inside i p s = lengthFits i s && widthFits i s && heightFits i s
+inside i p s = withinLength i s && withinWidth i s && withinHeight i s
 
 -- "1 length 2 width 3 height"
-abbrev pub dimension : Instance → Stack → ℕ
-dimension i s = cond (not (lengthFits i s)) 1 (cond (not (widthFits i s)) 2 3)
+abbrev pub exceededSide : Instance → Stack → ℕ
+exceededSide i s = cond (not (withinLength i s)) 1 (cond (not (withinWidth i s)) 2 3)
 
 -- 23 overlap, P2: two stacks of a used truck lie apart along the trailer or across it
-abbrev pub apart : Instance → Stack → Stack → Bool
-apart i s r = leb (xe i s) (x r) || leb (xe i r) (x s) || leb (ye i s) (y r) || leb (ye i r) (y s)
+abbrev pub disjoint : Instance → Stack → Stack → Bool
+disjoint i s r = leb (xe i s) (x r) || leb (xe i r) (x s) || leb (ye i s) (y r) || leb (ye i r) (y s)
 
 -- P3: r ends at the x of s, and their closed y ranges share a point; "A corner is enough"
-abbrev pub holds : Instance → Stack → Stack → Bool
-holds i s r = eqb (xe i r) (x s) && leb (y s) (ye i r) && leb (y r) (ye i s)
+abbrev pub braces : Instance → Stack → Stack → Bool
+braces i s r = eqb (xe i r) (x s) && leb (y s) (ye i r) && leb (y r) (ye i s)
 
 -- 24 unbraced, P3: a stack with x > 0 has another on its used truck that holds it; (stack)
 abbrev pub braced : Instance → List Stack → Stack → Bool
-braced i p s = eqb (x s) 0 || any (λ (r : Stack). another s r && holds i s r) p
+braced i p s = eqb (x s) 0 || any (λ (r : Stack). another s r && braces i s r) p
 
 -- no second place
 abbrev pub noAmount : Instance → Stack → ℕ
 noAmount i s = 0
 
 -- P4 (3): "every plant dock order of s1 at most every one of s2"
-unfoldable pub docksUpTo : Instance → Stack → Stack → Bool
+unfoldable pub docksNotAfter : Instance → Stack → Stack → Bool
 unfolding all orderFrom
-docksUpTo i s r = all (λ n. all (λ m. leb (plantDockOrder i s (item i n)) (plantDockOrder i r (item i m))) (r .load)) (s .load)
+docksNotAfter i s r = all (λ n. all (λ m. leb (plantDockOrder i s (item i n)) (plantDockOrder i r (item i m))) (r .load)) (s .load)
 
 -- P4: the three cases in which s must have x no greater than r's
-unfoldable pub precedes : Instance → Stack → Stack → Bool
-unfolding docksUpTo orderFrom
-precedes i s r =
+unfoldable pub loadsBefore : Instance → Stack → Stack → Bool
+unfolding docksNotAfter orderFrom
+loadsBefore i s r =
     let a = bottom i s in
     let b = bottom i r in
     let sameSupplier = eqb (IU a) (IU b) in
     let sameDock = eqb (IK a) (IK b) in
     ltb (supplierOrder i s) (supplierOrder i r)
     || (sameSupplier && ltb (supplierDockOrder i s a) (supplierDockOrder i r b))
-    || (sameSupplier && sameDock && docksUpTo i s r && not (docksUpTo i r s))
+    || (sameSupplier && sameDock && docksNotAfter i s r && not (docksNotAfter i r s))
 
 -- 25 order, P4: where s precedes r, its x is no greater; (s, r)
-abbrev pub inOrder : Instance → Stack → Stack → Bool
-inOrder i s r = not (precedes i s r) || leb (x s) (x r)
+abbrev pub inLoadingOrder : Instance → Stack → Stack → Bool
+inLoadingOrder i s r = not (loadsBefore i s r) || leb (x s) (x r)
 
 -- ---- weight rules
 -- 26 overload, W1: the stacks of a used truck weigh at most TMm; (truck, copy)
-unfoldable pub loadFits : Instance → Truck → List Stack → Bool
+unfoldable pub withinLoadLimit : Instance → Truck → List Stack → Bool
 unfolding weightOn
-loadFits i t on = leb (weightOn i on) (TMm t)
+withinLoadLimit i t on = leb (weightOn i on) (TMm t)
 
 -- 27 middle, W2: 2 × EJhr × CM × CJfc + H × CJfh ≤ 2 × EJhr × CJfm × EMmm; (truck, copy, k)
-unfoldable pub middleFits : Instance → Truck → List Stack → Bool
+unfoldable pub middleAxleHolds : Instance → Truck → List Stack → Bool
 unfolding H
-middleFits i t on =
+middleAxleHolds i t on =
     leZ (pos 2 *ℤ pos (EJhr t) *ℤ pos (CM t) *ℤ pos (CJfc t) +ℤ H i t on *ℤ pos (CJfh t)) (pos 2 *ℤ pos (EJhr t) *ℤ pos (CJfm t) *ℤ pos (EMmm t))
 
 -- 28 rear, W2: 2 × EJhr × (weight on + EM) − H ≤ 2 × EJhr × EMmr; (truck, copy, k)
-unfoldable pub rearFits : Instance → Truck → List Stack → Bool
+unfoldable pub rearAxleHolds : Instance → Truck → List Stack → Bool
 unfolding H weightOn
-rearFits i t on = leZ (pos 2 *ℤ pos (EJhr t) *ℤ (pos (weightOn i on) +ℤ pos (EM t)) -ℤ H i t on) (pos 2 *ℤ pos (EJhr t) *ℤ pos (EMmr t))
+rearAxleHolds i t on = leZ (pos 2 *ℤ pos (EJhr t) *ℤ (pos (weightOn i on) +ℤ pos (EM t)) -ℤ H i t on) (pos 2 *ℤ pos (EJhr t) *ℤ pos (EMmr t))
 
 -- ---- the rules in the order of the verdict table
 -- a verdict number, and the places where its rule is broken
@@ -225,43 +225,43 @@ unfoldable pub itemRules : List Rule
 unfolding notOnce itemPlaces any orderFrom
 itemRules =
     9 at notOnce
-    ∷ 10 at itemPlaces plantFits
-    ∷ 11 at itemPlaces productFits
-    ∷ 12 at itemPlaces supplierFits
-    ∷ 13 at itemPlaces dayFits
-    ∷ 14 at itemPlaces docksListed
+    ∷ 10 at itemPlaces plantMatches
+    ∷ 11 at itemPlaces productCarried
+    ∷ 12 at itemPlaces supplierVisited
+    ∷ 13 at itemPlaces arrivesInWindow
+    ∷ 14 at itemPlaces docksServed
     ∷ []
 
 -- "stack rules 15 to 21"
 unfoldable pub stackRules : List Rule
 unfolding itemPlaces stackPlaces pairPlaces plantDocksOf consecutive orderFrom weight
 stackRules =
-    15 at itemPlaces alike
-    ∷ 16 at stackPlaces docksFit dockCount
-    ∷ 17 at pairPlaces onePair
-    ∷ 18 at itemPlaces turnedRight
-    ∷ 19 at stackPlaces topLight weightAbove
-    ∷ 20 at stackPlaces fewEnough itemCount
-    ∷ 21 at stackPlaces densityFits sm
+    15 at itemPlaces stackable
+    ∷ 16 at stackPlaces plantDocksAllowed plantDockCount
+    ∷ 17 at pairPlaces singlePair
+    ∷ 18 at itemPlaces orientationKept
+    ∷ 19 at stackPlaces topWeightWithin weightAbove
+    ∷ 20 at stackPlaces stackabilityKept itemCount
+    ∷ 21 at stackPlaces densityWithin sm
     ∷ []
 
 -- placement rules, 22 to 25
 unfoldable pub placementRules : List Rule
-unfolding stackPlaces pairPlaces height any precedes
+unfolding stackPlaces pairPlaces height any loadsBefore
 placementRules =
-    22 at stackPlaces inside dimension
-    ∷ 23 at pairPlaces apart
+    22 at stackPlaces inside exceededSide
+    ∷ 23 at pairPlaces disjoint
     ∷ 24 at stackPlaces braced noAmount
-    ∷ 25 at pairPlaces inOrder
+    ∷ 25 at pairPlaces inLoadingOrder
     ∷ []
 
 -- weight rules, 26 to 28
 unfoldable pub weightRules : List Rule
-unfolding truckPlaces departurePlaces loadFits middleFits rearFits
+unfolding truckPlaces departurePlaces withinLoadLimit middleAxleHolds rearAxleHolds
 weightRules =
-    26 at truckPlaces loadFits
-    ∷ 27 at departurePlaces middleFits
-    ∷ 28 at departurePlaces rearFits
+    26 at truckPlaces withinLoadLimit
+    ∷ 27 at departurePlaces middleAxleHolds
+    ∷ 28 at departurePlaces rearAxleHolds
     ∷ []
 
 -- all of 9 to 28
