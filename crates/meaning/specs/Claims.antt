@@ -43,6 +43,7 @@ abbrev pub LowestPlace : Type 0
 LowestPlace = (ps : List Place) → IsLowest ps (lowest ps)
 
 -- ---- the verdict, rule by rule (proofs/Accepted: accepted-exactly, refused-exactly)
+-- a rule is kept where it lists no place
 abbrev pub KeptBy : Instance → List Stack → Rule → Type 0
 KeptBy i p r = r .places i p ≡ []
 
@@ -106,7 +107,7 @@ pub record Decoded (m : Limits) (table : List ℕ) (i : Instance) (p : List Stac
   pub stacks : stacksIn m table ≡ p
   pub size : length table ≡ named m
 
--- so for every model with room
+-- this holds of every model that the table has room for, so a table can be read back
 abbrev pub Decodes : Limits → Type 0
 Decodes m = (i : Instance) (p : List Stack) → Fits m i p → Decoded m (words m i p) i p
 
@@ -125,7 +126,7 @@ pub record TableKept (m : Limits) (table instance plan : List ℕ) : Type 0 wher
   pub filled : named m ≤ length table → (r : Readable m instance plan) → take (named m) (tableAfter m table instance plan) ≡ words m (r .says) (r .stacks)
   pub holds : named m ≤ length table → (r : Readable m instance plan) → Decoded m (take (named m) (tableAfter m table instance plan)) (r .says) (r .stacks)
 
--- so after every check
+-- this holds after every check, whatever the files and the table were
 abbrev pub TableAfter : Limits → Type 0
 TableAfter m = (table instance plan : List ℕ) → TableKept m table instance plan
 
@@ -136,7 +137,7 @@ pub record RefusedReading (a : Answer) : Type 0 where
   pub cost : a .cost ≡ 0
   pub trucks : a .trucks ≡ 0
 
--- so for every refusal of files
+-- this holds of every refusal of files, so none of them looks like an acceptance
 abbrev pub ReadRefused : Limits → Type 0
 ReadRefused m = (instance plan : List ℕ) (a : Answer) → readFiles m instance plan ≡ refused a → RefusedReading a
 
@@ -158,7 +159,7 @@ pub record InOrder (m : Limits) (instance plan : List ℕ) (i : Instance) (p′ 
   pub reordered : Reordered plan (printedPlan p′)
   pub read : readFiles m instance (printedPlan p′) ≡ readable i p′
 
--- so for every order of a readable plan
+-- this holds of every order of a readable plan, so `OrderFree` is about all of them
 abbrev pub AnyOrder : Limits → Type 0
 AnyOrder m =
     (instance plan : List ℕ) (r : Readable m instance plan) (p′ : List Stack) → List·Permᴰ (r .stacks) p′

@@ -109,7 +109,7 @@ pub record HasTwoDocks (i : Instance) (s : Stack) : Type 0 where
 abbrev pub weightOf : Instance → List ℕ → ℤ
 weightOf i ns = sumℤ (λ n. pos (IM (item i n))) ns
 
--- 15 to 21 for one stack
+-- 15, 16 and 18 to 21 for one stack; 17 is about two
 pub record StackFits (i : Instance) (s : Stack) : Type 0 where
   pub items : (n : ℕ) → In n (s .load) → ItemStacks i s n
   -- 16: one plant dock, or with TF = 1 two consecutive ones
@@ -148,14 +148,18 @@ pub data MustPrecede (i : Instance) (s r : Stack) : Type 0 where
 pub record RulesHold (i : Instance) (p : List Stack) : Type 0 where
   -- 9: each item stands once among the load entries of the whole plan
   pub once : (n : ℕ) → 1 ≤ n → n ≤ length (i .items) → Once n (flatMap (λ (s : Stack). s .load) p)
+  -- 10 to 14, for each item where it is loaded
   pub items : (s : Stack) → In s p → (n : ℕ) → In n (s .load) → ItemFits i s n
+  -- 15, 16 and 18 to 21, for each stack
   pub stacks : (s : Stack) → In s p → StackFits i s
   -- 17: two stacks of one code on one used truck do not both have two plant docks
   pub singlePair : (s r : Stack) → In s p → In r p → SameTruck s r → (number s ≡ number r → ⊥) → IS (base i s) ≡ IS (base i r)
       → HasTwoDocks i s → HasTwoDocks i r → ⊥
+  -- "each stack's height at most TH"
   pub heights : (s : Stack) → In s p → heightOf i s ≤ℤ pos (TH (truckOf i s))
   -- W1, for the used truck of each stack
   pub weights : (s : Stack) → In s p → sumWhere (onTruckOf s) (λ r. weightOf i (r .load)) p ≤ℤ pos (TMm (truckOf i s))
+  -- P4
   pub order : (s r : Stack) → In s p → In r p → SameTruck s r → MustPrecede i s r → x s ≤ x r
 
 -- ---- parts 2 and 3, floor
@@ -223,7 +227,7 @@ pub record AxleLoadsWithin (i : Instance) (p : List Stack) (s : Stack) (k : ℕ)
       +ℤ pos 2 *ℤ pos (EM t) *ℤ (pos (EJhr t) -ℤ pos (EJcr t)))
       ≤ℤ (pos 2 *ℤ pos (EJhr t) *ℤ pos (EMmr t))
 
--- ---- the picture: "It holds when all five parts do"
+-- ---- the picture, which is document 01's word for it: "It holds when all five parts do"
 pub record Feasible (i : Instance) (p : List Stack) : Type 0 where
   pub rules : RulesHold i p
   -- "No square lies under two stacks of one used truck": a stack is known by its number

@@ -18,11 +18,11 @@ bottom i s = item i (getD (s .load) 0 0)
 abbrev pub above : Stack → List ℕ
 above s = drop 1 (s .load)
 
--- "sl, sw are IL, IW of the bottom item": sl
+-- "sl, sw are IL, IW of the bottom item"; density (21) needs them whichever way the stack is turned
 abbrev pub sl : Instance → Stack → ℕ
 sl i s = IL (bottom i s)
 
--- sw
+-- "sl, sw are IL, IW of the bottom item"
 abbrev pub sw : Instance → Stack → ℕ
 sw i s = IW (bottom i s)
 
@@ -30,15 +30,15 @@ sw i s = IW (bottom i s)
 abbrev pub along : Instance → Stack → ℕ
 along i s = cond (eqb (orientation s) 1) (sl i s) (sw i s)
 
--- the extent across the trailer
+-- "2 exchanges sl and sw": the extent across the trailer
 abbrev pub across : Instance → Stack → ℕ
 across i s = cond (eqb (orientation s) 1) (sw i s) (sl i s)
 
--- xe
+-- "xe = x + sl", or x + sw where the stack is turned
 abbrev pub xe : Instance → Stack → ℕ
 xe i s = x s + along i s
 
--- ye
+-- "ye = y + sw", or y + sl where the stack is turned
 abbrev pub ye : Instance → Stack → ℕ
 ye i s = y s + across i s
 
@@ -47,11 +47,11 @@ unfoldable pub height : Instance → Stack → ℕ
 unfolding sum
 height i s = sum (λ n. IH (item i n)) (s .load) - sum (λ n. nesting (item i n)) (above s)
 
--- how high a stack may be
+-- P1: how high a stack may be, which is TH everywhere in the truck
 abbrev pub heightLimit : Instance → Stack → ℕ
 heightLimit i s = TH (truckOf i s)
 
--- the weight of items
+-- the sum of IM over items, for a stack (sm) and for those above its bottom item (19)
 unfoldable pub weight : Instance → List ℕ → ℕ
 unfolding sum
 weight i ns = sum (λ n. IM (item i n)) ns
@@ -61,7 +61,7 @@ abbrev pub sm : Instance → Stack → ℕ
 sm i s = weight i (s .load)
 
 -- ---- loading orders on the stack's truck; 0 for what is not listed
--- of the stack's supplier
+-- P4 (1) and W2: of the stack's supplier
 abbrev pub supplierOrder : Instance → Stack → ℕ
 supplierOrder i s = orderIn (truckOf i s .suppliers) (IU (bottom i s))
 
@@ -69,15 +69,15 @@ supplierOrder i s = orderIn (truckOf i s .suppliers) (IU (bottom i s))
 abbrev pub docksOf : Truck → ℕ → List ℕ
 docksOf t supplier = getD ([] ∷ t .docks) (orderIn (t .suppliers) supplier) []
 
--- of an item's supplier dock, among the docks of its supplier
+-- P4 (2) and 14: of an item's supplier dock, among the docks of its supplier
 abbrev pub supplierDockOrder : Instance → Stack → Item → ℕ
 supplierDockOrder i s a = orderIn (docksOf (truckOf i s) (IU a)) (IK a)
 
--- of an item's plant dock
+-- P4 (3) and 14: of an item's plant dock
 abbrev pub plantDockOrder : Instance → Stack → Item → ℕ
 plantDockOrder i s a = orderIn (truckOf i s .plantDocks) (IG a)
 
--- the plant docks of a stack, each once
+-- 16 and 17 count these: the plant docks of a stack, each once
 unfoldable pub plantDocksOf : Instance → Stack → List ℕ
 unfolding dedup
 plantDocksOf i s = dedup eqb (map (λ n. IG (item i n)) (s .load))
@@ -105,11 +105,11 @@ unfoldable pub stacksOn : List Stack → UsedTruck → List Stack
 unfolding filter
 stacksOn p u = filter (λ (s : Stack). sameUsed u (usedBy s)) p
 
--- r is another stack on the used truck of s
+-- P2 to P4: r is another stack on the used truck of s; a stack is known by its number
 abbrev pub another : Stack → Stack → Bool
 another s r = sameUsed (usedBy s) (usedBy r) && not (eqb (number s) (number r))
 
--- the weight of stacks
+-- W1 and W2: the weight of the stacks that are on
 unfoldable pub weightOn : Instance → List Stack → ℕ
 unfolding sum weight
 weightOn i on = sum (sm i) on
