@@ -1,4 +1,4 @@
--- The words of a model with room in the table hold that model, and are as many as are named.
+-- The words of a model with room in the table hold that model, also with words beyond them, and are as many as are named.
 use mathlib.Core.Path.{_≡_, refl, sym, ap, ap₂, _∙_}
 use mathlib.Core.List.{List, [], _∷_, _++_, map, flatMap, append-assoc, append-nil, map-id}
 use Prim.Native.Nat.{ℕ, zero, suc, _+_, _-_, _*_, _≤_}
@@ -17,17 +17,17 @@ use Rattle.meaning.proofs.Lists.{every-map}
 
 -- ---- words in parts
 -- from word `at` on, ws is `rest`
-record From (ws : List ℕ) (at : ℕ) (rest : List ℕ) : Type 0 where
-  front : List ℕ
-  whole : ws ≡ front ++ rest
-  width : length front ≡ at
+pub record From (ws : List ℕ) (at : ℕ) (rest : List ℕ) : Type 0 where
+  pub front : List ℕ
+  pub whole : ws ≡ front ++ rest
+  pub width : length front ≡ at
 
 start : (ws : List ℕ) → From ws 0 ws
 start ws = record { front = []; whole = refl; width = refl }
 
 module _ {ws : List ℕ} {at : ℕ} where
   -- past a part of w words
-  past : (w : ℕ) (part rest : List ℕ) → From ws at (part ++ rest) → length part ≡ w → From ws (at + w) rest
+  pub past : (w : ℕ) (part rest : List ℕ) → From ws at (part ++ rest) → length part ≡ w → From ws (at + w) rest
   past w part rest h e =
       record {
         front = h .front ++ part;
@@ -43,14 +43,14 @@ module _ {ws : List ℕ} {at : ℕ} where
   length-whole : From ws at [] → length ws ≡ at
   length-whole h = ap length (h .whole ∙ append-nil (h .front)) ∙ h .width
 
-  drop-from : {rest : List ℕ} → From ws at rest → drop at ws ≡ rest
+  pub drop-from : {rest : List ℕ} → From ws at rest → drop at ws ≡ rest
   drop-from {rest} h = ap (drop at) (h .whole) ∙ drop-at (h .front) rest at (h .width)
 
-  word-at : {n : ℕ} {rest : List ℕ} → From ws at (n ∷ rest) → getD ws at 0 ≡ n
+  pub word-at : {n : ℕ} {rest : List ℕ} → From ws at (n ∷ rest) → getD ws at 0 ≡ n
   word-at {n} {rest} h = ap (λ (l : List ℕ). getD l at 0) (h .whole) ∙ getD-at (h .front) n rest 0 at (h .width)
 
 -- ---- padded parts
-length-padded : (w : ℕ) (l : List ℕ) → length l ≤ w → length (padded w l) ≡ w
+pub length-padded : (w : ℕ) (l : List ℕ) → length l ≤ w → length (padded w l) ≡ w
 length-padded w l h = simp (length-append, length-replicate) (omega arith)
 
 -- a part of entries behind their count
@@ -105,50 +105,71 @@ cut-docks (suc n) (d ∷ ds) rest h k =
     rw (append-assoc (padded 8 d) (flatMap (padded 8) ds) rest, take-at (padded 8 d) later 8 e, drop-at (padded 8 d) later 8 e)
     (ap₂ {C = List (List ℕ)} (λ a r. a ∷ r) (take-at d (replicate (8 - length d) 0) (length d) refl) (cut-docks n ds rest (omega arith) (k .1)))
 
--- the words of a truck hold it, and are 160: both from where its parts begin
-truck-held : (t : Truck) → TruckFits t → (truckIn (truckWords t) ≡ t) × (length (truckWords t) ≡ 160)
-unfolding truckIn truckWords
-truck-held t h =
-    let ws = truckWords t in
-    let dockCounts = map length (t .docks) in
-    let dockRows = flatMap (padded 8) (t .docks) in
-    -- the parts behind the fields
-    let plantDocks = countedWords 25 (t .plantDocks) in
-    let rows = padded 64 dockRows in
-    let counts = padded 8 dockCounts in
-    let suppliers = countedWords 8 (t .suppliers) in
-    let products = countedWords 32 (t .products) in
-    -- where each begins
-    let few : length (t .docks) ≤ 8 = omega (arith, h .dockLines, h .suppliers) in
-    let eights = every-map _ _ (length-padded 8) (t .docks) (h .docks) in
-    let from20 : From ws 20 _ = past 20 (t .fields) (products ++ (suppliers ++ (counts ++ (rows ++ plantDocks)))) (start ws) (h .fields) in
-    let from53 : From ws 53 _ = past 33 products (suppliers ++ (counts ++ (rows ++ plantDocks))) from20 (length-counted 32 (t .products) (h .products)) in
-    let from62 : From ws 62 _ = past 9 suppliers (counts ++ (rows ++ plantDocks)) from53 (length-counted 8 (t .suppliers) (h .suppliers)) in
-    let from70 : From ws 70 _ = past 8 counts (rows ++ plantDocks) from62 (length-padded 8 dockCounts (omega (arith, length-map (t .docks) length))) in
-    let from134 : From ws 134 _ = last plantDocks (past 64 rows plantDocks from70 (length-runs 8 (padded 8) 8 (t .docks) eights few)) in
-    let from160 : From ws 160 [] = past 26 plantDocks [] from134 (length-counted 25 (t .plantDocks) (omega (arith, h .plantDocks))) in
-    -- what they hold
-    let fields : take 20 ws ≡ t .fields = take-at (t .fields) _ 20 (h .fields) in
-    let docksCounted : getD ws 53 0 ≡ length dockCounts = word-at from53 ∙ sym (h .dockLines) ∙ sym (length-map (t .docks) length) in
-    let docks : cutRows (take (getD ws 53 0) (drop 62 ws)) (chunks 8 8 (drop 70 ws)) ≡ t .docks =
-    ap₂ cutRows (take-padded 8 dockCounts (rows ++ plantDocks) _ docksCounted from62) (ap (chunks 8 8) (drop-padded 64 dockRows plantDocks from70))
-    ∙ cut-docks 8 (t .docks) _ few (h .docks)
-    in (
-      (λ j. record {
+-- its words from each part behind the fields on
+module _ (t : Truck) where
+  abbrev plantDockWords : List ℕ
+  plantDockWords = countedWords 25 (t .plantDocks)
+
+  abbrev pub dockWords : List ℕ
+  dockWords = padded 64 (flatMap (padded 8) (t .docks)) ++ plantDockWords
+
+  abbrev dockCountWords : List ℕ
+  dockCountWords = padded 8 (map length (t .docks)) ++ dockWords
+
+  abbrev supplierWords : List ℕ
+  supplierWords = countedWords 8 (t .suppliers) ++ dockCountWords
+
+  abbrev productWords : List ℕ
+  productWords = countedWords 32 (t .products) ++ supplierWords
+
+-- where each begins, and so what the words of a truck hold
+module _ (t : Truck) (h : TruckFits t) where
+  few-docks : length (t .docks) ≤ 8
+  few-docks = omega (arith, h .dockLines, h .suppliers)
+
+  from20 : From (truckWords t) 20 (productWords t)
+  unfolding truckWords
+  from20 = past 20 (t .fields) (productWords t) (start (truckWords t)) (h .fields)
+
+  from53 : From (truckWords t) 53 (supplierWords t)
+  from53 = past 33 (countedWords 32 (t .products)) (supplierWords t) from20 (length-counted 32 (t .products) (h .products))
+
+  pub from62 : From (truckWords t) 62 (padded 8 (map length (t .docks)) ++ dockWords t)
+  from62 = past 9 (countedWords 8 (t .suppliers)) (dockCountWords t) from53 (length-counted 8 (t .suppliers) (h .suppliers))
+
+  from70 : From (truckWords t) 70 (dockWords t)
+  from70 =
+      past 8 (padded 8 (map length (t .docks))) (dockWords t) from62
+      (length-padded 8 (map length (t .docks)) (omega (arith, length-map (t .docks) length, few-docks)))
+
+  from134 : From (truckWords t) 134 (plantDockWords t ++ [])
+  from134 =
+      let eights = every-map _ _ (length-padded 8) (t .docks) (h .docks) in
+      last (plantDockWords t)
+      (past 64 (padded 64 (flatMap (padded 8) (t .docks))) (plantDockWords t) from70 (length-runs 8 (padded 8) 8 (t .docks) eights few-docks))
+
+  pub truck-size : length (truckWords t) ≡ 160
+  truck-size = length-whole (past 26 (plantDockWords t) [] from134 (length-counted 25 (t .plantDocks) (omega (arith, h .plantDocks))))
+
+  pub truck-decodes : truckIn (truckWords t) ≡ t
+  unfolding truckIn truckWords
+  truck-decodes =
+      let ws = truckWords t in
+      let counts = map length (t .docks) in
+      let fields : take 20 ws ≡ t .fields = take-at (t .fields) _ 20 (h .fields) in
+      let counted : getD ws 53 0 ≡ length counts = word-at from53 ∙ sym (h .dockLines) ∙ sym (length-map (t .docks) length) in
+      let docks : cutRows (take (getD ws 53 0) (drop 62 ws)) (chunks 8 8 (drop 70 ws)) ≡ t .docks =
+      ap₂ cutRows (take-padded 8 counts (dockWords t) _ counted from62)
+      (ap (chunks 8 8) (drop-padded 64 (flatMap (padded 8) (t .docks)) (plantDockWords t) from70))
+      ∙ cut-docks 8 (t .docks) _ few-docks (h .docks)
+      in
+      λ j. record {
         fields = fields j;
         products = take-counted 32 (t .products) _ from20 j;
         suppliers = take-counted 8 (t .suppliers) _ from53 j;
         docks = docks j;
         plantDocks = take-counted 25 (t .plantDocks) [] from134 j;
-      }),
-      length-whole from160,
-    )
-
-pub truck-decodes : (t : Truck) → TruckFits t → truckIn (truckWords t) ≡ t
-truck-decodes t h = truck-held t h .0
-
-pub truck-size : (t : Truck) → TruckFits t → length (truckWords t) ≡ 160
-truck-size t h = truck-held t h .1
+      }
 
 trucks-decode : (ts : List Truck) → Every TruckFits ts → map truckIn (map truckWords ts) ≡ ts
 trucks-decode [] h = refl
@@ -156,10 +177,10 @@ trucks-decode (t ∷ ts) h = ap₂ {C = List Truck} (λ a r. a ∷ r) (truck-dec
 
 -- ---- stacks
 -- the words of one stack, with `before` load entries before its own
-abbrev stackRow : ℕ → Stack → List ℕ
+abbrev pub stackRow : ℕ → Stack → List ℕ
 stackRow before s = s .fields ++ (before ∷ length (s .load) ∷ [])
 
-length-stackRow : (before : ℕ) (s : Stack) → length (s .fields) ≡ 6 → length (stackRow before s) ≡ 8
+pub length-stackRow : (before : ℕ) (s : Stack) → length (s .fields) ≡ 6 → length (stackRow before s) ≡ 8
 length-stackRow before s h = simp length-append (omega arith)
 
 -- a stack whose load entries have the words `before` in front and `after` behind
@@ -195,41 +216,87 @@ length-stackWords before (s ∷ p) h =
     let later = before + length (s .load) in
     rw (length-append (stackRow before s) (stackWords later p), length-stackRow before s (h .0), length-stackWords later p (h .1)) (omega arith)
 
--- ---- the table
+-- ---- the table: the words of a model, and any words beyond them
+-- its words from each part on
+module _ (m : Limits) (i : Instance) (p : List Stack) (beyond : List ℕ) where
+  abbrev fromLoads : List ℕ
+  fromLoads = padded (m .loads) (loadEntries p) ++ beyond
+
+  -- behind the words of the stacks: zeros, then the loads
+  abbrev pub behindStacks : List ℕ
+  behindStacks = replicate (8 * m .stacks - length (stackWords 0 p)) 0 ++ fromLoads
+
+  abbrev fromStacks : List ℕ
+  fromStacks = padded (8 * m .stacks) (stackWords 0 p) ++ fromLoads
+
+  abbrev fromTrucks : List ℕ
+  fromTrucks = padded (160 * m .trucks) (flatMap truckWords (i .trucks)) ++ fromStacks
+
+  abbrev fromItems : List ℕ
+  fromItems = padded (16 * m .items) (flatMap (λ (a : Item). a) (i .items)) ++ fromTrucks
+
+  abbrev longTable : List ℕ
+  longTable = words m i p ++ beyond
+
+-- where each begins, and what it holds
+module _ (m : Limits) (i : Instance) (p : List Stack) (h : Fits m i p) (beyond : List ℕ) where
+  items-begin : From (longTable m i p beyond) itemsAt (fromItems m i p beyond)
+  unfolding words headWords
+  items-begin = record { front = padded itemsAt (headWords i p); whole = simp append-assoc; width = refl }
+
+  sizes : Every (λ (t : Truck). length (truckWords t) ≡ 160) (i .trucks)
+  sizes = every-map TruckFits _ truck-size (i .trucks) (h .trucks)
+
+  trucks-begin : From (longTable m i p beyond) (trucksAt m) (fromTrucks m i p beyond)
+  trucks-begin =
+      past (16 * m .items) (padded (16 * m .items) (flatMap (λ (a : Item). a) (i .items))) (fromTrucks m i p beyond) items-begin
+      (length-runs 16 (λ (a : Item). a) (m .items) (i .items) (h .items) (h .itemCount))
+
+  stacks-begin : From (longTable m i p beyond) (stacksAt m) (fromStacks m i p beyond)
+  stacks-begin =
+      past (160 * m .trucks) (padded (160 * m .trucks) (flatMap truckWords (i .trucks))) (fromStacks m i p beyond) trucks-begin
+      (length-runs 160 truckWords (m .trucks) (i .trucks) sizes (h .truckCount))
+
+  loads-begin : From (longTable m i p beyond) (loadsAt m) (fromLoads m i p beyond)
+  loads-begin =
+      past (8 * m .stacks) (padded (8 * m .stacks) (stackWords 0 p)) (fromLoads m i p beyond) stacks-begin
+      (length-padded (8 * m .stacks) (stackWords 0 p) (omega (arith, length-stackWords 0 p (h .stacks), h .stackCount)))
+
+  beyond-begins : From (longTable m i p beyond) (named m) beyond
+  beyond-begins = past (m .loads) (padded (m .loads) (loadEntries p)) beyond loads-begin (length-padded (m .loads) (loadEntries p) (h .loads))
+
+  -- the rows of the trucks, and the words from the stacks on
+  pub truck-rows : chunks 160 (length (i .trucks)) (drop (trucksAt m) (longTable m i p beyond)) ≡ map truckWords (i .trucks)
+  truck-rows = chunks-runs 160 truckWords (m .trucks) (i .trucks) sizes (fromStacks m i p beyond) trucks-begin
+
+  pub stack-rows : drop (stacksAt m) (longTable m i p beyond) ≡ stackWords 0 p ++ behindStacks m i p beyond
+  stack-rows = drop-padded (8 * m .stacks) (stackWords 0 p) (fromLoads m i p beyond) stacks-begin
+
+  pub instance-held : instanceIn m (longTable m i p beyond) ≡ i
+  unfolding words headWords instanceIn
+  instance-held =
+      let items : chunks 16 (length (i .items)) (drop itemsAt (longTable m i p beyond)) ≡ i .items =
+      chunks-runs 16 _ (m .items) (i .items) (h .items) (fromTrucks m i p beyond) items-begin ∙ map-id (i .items)
+      in
+      let trucks : map truckIn (chunks 160 (length (i .trucks)) (drop (trucksAt m) (longTable m i p beyond))) ≡ i .trucks =
+      ap (map truckIn) truck-rows ∙ trucks-decode (i .trucks) (h .trucks)
+      in
+      λ j. record { αT = i .αT; αI = i .αI; αE = i .αE; items = items j; trucks = trucks j }
+
+  pub stacks-held : stacksIn m (longTable m i p beyond) ≡ p
+  unfolding words headWords stacksIn
+  stacks-held =
+      ap₂ (λ (l r : List ℕ). map (stackIn l) (chunks 8 (length p) r)) (drop-padded (m .loads) (loadEntries p) beyond loads-begin) stack-rows
+      ∙ stacks-decode p [] _ _ (h .stacks)
+
+-- the same with none beyond
 pub decodes : (m : Limits) → Decodes m
-unfolding words headWords instanceIn stacksIn
 decodes m i p h =
-    let ws = words m i p in
-    -- the parts behind the first words
-    let loads = padded (m .loads) (loadEntries p) in
-    let stacks = padded (8 * m .stacks) (stackWords 0 p) in
-    let trucks = padded (160 * m .trucks) (flatMap truckWords (i .trucks)) in
-    let items = padded (16 * m .items) (flatMap (λ (a : Item). a) (i .items)) in
-    -- how long they are
-    let sizes = every-map TruckFits _ truck-size (i .trucks) (h .trucks) in
-    let itemsFill = length-runs 16 (λ (a : Item). a) (m .items) (i .items) (h .items) (h .itemCount) in
-    let trucksFill = length-runs 160 truckWords (m .trucks) (i .trucks) sizes (h .truckCount) in
-    let stacksFill = length-padded (8 * m .stacks) (stackWords 0 p) (omega (arith, length-stackWords 0 p (h .stacks), h .stackCount)) in
-    let loadsFill = length-padded (m .loads) (loadEntries p) (h .loads) in
-    -- where each begins
-    let fromItems : From ws itemsAt _ = past itemsAt (padded itemsAt (headWords i p)) (items ++ (trucks ++ (stacks ++ loads))) (start ws) refl in
-    let fromTrucks : From ws (trucksAt m) _ = past (16 * m .items) items (trucks ++ (stacks ++ loads)) fromItems itemsFill in
-    let fromStacks : From ws (stacksAt m) _ = past (160 * m .trucks) trucks (stacks ++ loads) fromTrucks trucksFill in
-    let fromLoads : From ws (loadsAt m) loads = past (8 * m .stacks) stacks loads fromStacks stacksFill in
-    let fromEnd : From ws (named m) [] = past (m .loads) loads [] (last loads fromLoads) loadsFill in
-    -- what they hold
-    let itemsHeld : chunks 16 (length (i .items)) (drop itemsAt ws) ≡ i .items =
-    chunks-runs 16 _ (m .items) (i .items) (h .items) (trucks ++ (stacks ++ loads)) fromItems ∙ map-id (i .items)
-    in
-    let trucksHeld : map truckIn (chunks 160 (length (i .trucks)) (drop (trucksAt m) ws)) ≡ i .trucks =
-    ap (map truckIn) (chunks-runs 160 truckWords (m .trucks) (i .trucks) sizes (stacks ++ loads) fromTrucks) ∙ trucks-decode (i .trucks) (h .trucks)
-    in
+    let e = sym (append-nil (words m i p)) in
     record {
-      instance = λ j. record { αT = i .αT; αI = i .αI; αE = i .αE; items = itemsHeld j; trucks = trucksHeld j };
-      stacks =
-          ap₂ (λ (l r : List ℕ). map (stackIn l) (chunks 8 (length p) r)) (drop-from fromLoads) (drop-padded (8 * m .stacks) (stackWords 0 p) loads fromStacks)
-          ∙ stacks-decode p [] _ _ (h .stacks);
-      size = length-whole fromEnd;
+      instance = ap (instanceIn m) e ∙ instance-held m i p h [];
+      stacks = ap (stacksIn m) e ∙ stacks-held m i p h [];
+      size = ap length e ∙ length-whole (beyond-begins m i p h []);
     }
 
 -- so the words of the model that words hold are those words

@@ -162,14 +162,18 @@ yielded P text bs a (found b n rest) h k = (subst P (k .0) (h .0), h .1 ∙ ap�
 yielded P text bs a (wrongForm n) h k = absurd k
 yielded P text bs a (outOfRange n) h k = absurd k
 
--- both at once, since the same walk through the readers gives both
+-- an instance that was read is in range and was printed: both at once, since the same walk through the readers gives both
+pub instance-off : (m : Limits) (bs : List ℕ) (i : Instance) → Finds (Wholly i) (instanceLines m 1 bs) → InstanceInRange m i × (bs ≡ printedInstance i)
+instance-off m bs i h = yielded (InstanceInRange m) printedInstance bs i (instanceLines m 1 bs) (yields-instance m .yields 1 bs) h
+
+-- so are both files
 pub read-off : (m : Limits) (instance plan : List ℕ) (r : Readable m instance plan)
     → InRange m (r .says) (r .stacks) × IsPrinted instance plan (r .says) (r .stacks)
 read-off m instance plan r =
     let i = r .says in
     let p = r .stacks in
     let h = read-reads m instance plan i p .0 (r .read) in
-    let a = yielded (InstanceInRange m) printedInstance instance i (instanceLines m 1 instance) (yields-instance m .yields 1 instance) (h .says) in
+    let a = instance-off m instance i (h .says) in
     let b = yielded (PlanInRange m i) printedPlan plan p (planLines m i 1 plan) (yields-plan m i .yields 1 plan) (h .stacks) in
     (record { instance = a .0; stackCount = b .0 .0; stacks = b .0 .1 }, record { says = a .1; stacks = b .1 })
 
