@@ -1,0 +1,169 @@
+// One line of a file: where it ends, its key, its value, and the value's numbers as 32-bit words.
+ghost use mathlib.Core.Path.{_≡_};
+ghost use mathlib.Core.Bool.{cond};
+ghost use mathlib.Core.Option.{none, some};
+ghost use Prim.Native.Nat.{ℕ, _+_};
+ghost use lib.ListN.{length, drop};
+ghost use lib.Seq.{sets};
+ghost use Rattle.meaning.specs.Text.{isDigit, countBefore, number, numbers, commaParts, valueAfter};
+ghost use Rattle.text.specs.Words.{word, parsedNumber, parsedNumbers, leading, parsedLine, lineWords};
+
+// The index of the first such byte from `from` on; the length where there is none, and `from` where that is past the end.
+pub fn first_byte(bytes: &[u8], from: usize, byte: u8) -> usize
+    ensures { λ r. ⌜ r ≡ from + countBefore byte (drop from (now (bytes .entry))) ⌝ }
+{
+    let mut i = from;
+    while i < bytes.len() {
+        if bytes[i] == byte {
+            return i;
+        }
+        i += 1;
+    }
+    i
+}
+
+// Whether the line begins with the key, byte by byte.
+pub fn begins_with(line: &[u8], key: &[u8]) -> bool
+    ensures { λ r. ⌜ cond r (some (drop (length (now (key .entry))) (now (line .entry)))) none ≡ valueAfter (now (key .entry)) (now (line .entry)) ⌝ }
+{
+    if line.len() < key.len() {
+        return false;
+    }
+    let mut i = 0;
+    while i < key.len() {
+        if line[i] != key[i] {
+            return false;
+        }
+        i += 1;
+    }
+    true
+}
+
+// The rest of the line behind its first bytes: behind its key, the line's value.
+pub fn rest_of<'a>(line: &'a [u8], from: usize) -> &'a [u8]
+    ensures { λ r. ⌜ now r ≡ drop from (now (line .entry)) ⌝ }
+{
+    if from <= line.len() {
+        &line[from..]
+    } else {
+        let end = line.len();
+        &line[end..]
+    }
+}
+
+// Whether the byte is a decimal digit.
+pub fn is_digit(byte: u8) -> bool
+    ensures { λ r. ⌜ r ≡ isDigit byte ⌝ }
+{
+    48 <= byte && byte <= 57
+}
+
+// The same number, wider, so that ten digits fit.
+pub fn widened(digit: u8) -> u64
+    ensures { λ r. ⌜ r ≡ digit ⌝ }
+{
+    digit as u64
+}
+
+// The number as a word; the largest word where it does not fit, which every range refuses.
+pub fn as_word(n: u64) -> u32
+    ensures { λ r. ⌜ r ≡ word n ⌝ }
+{
+    if n < 4294967295 { n as u32 } else { 4294967295 }
+}
+
+// What some bytes are: a number, or none.
+pub enum Parsed {
+    Word(u32),
+    Malformed,
+}
+
+// The number that the bytes are: 1 to 10 digits, without needless leading zero.
+pub fn parse_number(digits: &[u8]) -> Parsed
+    ensures { λ r. ⌜ r ≡ parsedNumber (number (now (digits .entry))) ⌝ }
+{
+    if digits.len() < 1 {
+        return Parsed::Malformed;
+    }
+    if 10 < digits.len() {
+        return Parsed::Malformed;
+    }
+    if 1 < digits.len() {
+        if digits[0] == 48 {
+            return Parsed::Malformed;
+        }
+    }
+    let mut n: u64 = 0;
+    let mut i = 0;
+    while i < digits.len() {
+        let digit = digits[i];
+        if !is_digit(digit) {
+            return Parsed::Malformed;
+        }
+        n = 10 * n + widened(digit - 48);
+        i += 1;
+    }
+    Parsed::Word(as_word(n))
+}
+
+// How many numbers a value has; or that it has a part that is no number, too few numbers, or more than there is room for.
+pub enum ParsedNumbers {
+    Count(usize),
+    Malformed,
+}
+
+// Stores the numbers of a value, which stand between commas, from the front of `out` on.
+pub fn parse_numbers(value: &[u8], least: usize, out: &mut [u32]) -> ParsedNumbers
+    ensures answer { λ r. ⌜ r ≡ parsedNumbers least (length (now (out .entry))) (numbers (commaParts (now (value .entry)))) ⌝ }
+    ensures words { λ _. ⌜ now (out .exit) ≡ sets (now (out .entry)) 0 (leading (length (now (out .entry))) (commaParts (now (value .entry)))) ⌝ }
+{
+    let mut count: usize = 0;
+    let mut from: usize = 0;
+    loop {
+        let end = first_byte(value, from, 44);
+        match parse_number(&value[from..end]) {
+            Parsed::Word(w) => {
+                if count == out.len() {
+                    return ParsedNumbers::Malformed;
+                }
+                out[count] = w;
+                count += 1;
+                if end == value.len() {
+                    if count < least {
+                        return ParsedNumbers::Malformed;
+                    }
+                    return ParsedNumbers::Count(count);
+                }
+                from = end + 1;
+            }
+            Parsed::Malformed => {
+                return ParsedNumbers::Malformed;
+            }
+        }
+    }
+}
+
+// Where the next line begins and how many numbers this one has; or that it is unended, has another key or is no list of so many numbers.
+pub enum ParsedLine {
+    Next(usize, usize),
+    WrongForm,
+}
+
+// Stores the numbers of the line that begins at `at`: at least `least` of them, and at most as many as `out` has room for.
+pub fn parse_line(bytes: &[u8], at: usize, key: &[u8], least: usize, out: &mut [u32]) -> ParsedLine
+    ensures answer { λ r. ⌜ r ≡ parsedLine (now (key .entry)) least (length (now (out .entry))) at (drop at (now (bytes .entry))) ⌝ }
+    ensures words { λ _. ⌜ now (out .exit) ≡ sets (now (out .entry)) 0 (lineWords (now (key .entry)) (length (now (out .entry))) (drop at (now (bytes .entry)))) ⌝ }
+{
+    let end = first_byte(bytes, at, 10);
+    if bytes.len() <= end {
+        return ParsedLine::WrongForm;
+    }
+    let line = &bytes[at..end];
+    if !begins_with(line, key) {
+        return ParsedLine::WrongForm;
+    }
+    match parse_numbers(rest_of(line, key.len()), least, out) {
+        ParsedNumbers::Count(count) => ParsedLine::Next(end + 1, count),
+        ParsedNumbers::Malformed => ParsedLine::WrongForm,
+    }
+}
