@@ -1,0 +1,94 @@
+-- Which number of the model a word of the table is.
+use mathlib.Core.Path.{_≡_, refl, ap, ap₂, _∙_}
+use mathlib.Core.List.{List, [], _∷_}
+use Prim.Native.Nat.{ℕ, zero, suc, _+_, _-_, _*_, _≤_, _<_}
+use native.Mathlib.Omega.{arith}
+use lib.ListN.{length, getD, take, drop}
+use lib.Seq.{getD-take, drop-drop}
+use Rattle.meaning.specs.declared.Limits.{Limits}
+use Rattle.meaning.specs.Lists.{chunks}
+use Rattle.meaning.specs.Limits.{itemsAt, trucksAt, stacksAt, loadsAt}
+use Rattle.meaning.specs.Model.{item, noTruck, truckNumbered}
+use Rattle.meaning.specs.Table.{cutRows, truckIn, instanceIn, stackIn, stacksIn}
+use Rattle.table.specs.Filled.{noStack, stackAt, IsItem, IsTruck}
+use Rattle.table.proofs.Parts.{part, part-at, length-part, length-chunks, chunk-at, length-made, made-at}
+
+-- where a truck and a stack begin
+abbrev pub truckPlace : Limits → ℕ → ℕ
+truckPlace m n = trucksAt m + 160 * (n - 1)
+
+abbrev pub stackPlace : Limits → ℕ → ℕ
+stackPlace m s = stacksAt m + 8 * s
+
+-- the words behind a stack's fields: its first entry among the loads, and how many it has
+abbrev pub loadFirst : Limits → List ℕ → ℕ → ℕ
+loadFirst m t s = getD t (stackPlace m s + 6) 0
+
+abbrev pub loadCount : Limits → List ℕ → ℕ → ℕ
+loadCount m t s = getD t (stackPlace m s + 7) 0
+
+-- ---- the docks of a truck's row, which stand in rows of eight words
+cut-at : (counts : List ℕ) (rows : List (List ℕ)) (k : ℕ) → k < length counts → k < length rows
+    → getD (cutRows counts rows) k [] ≡ take (getD counts k 0) (getD rows k [])
+unfolding cutRows
+cut-at [] rows k h l = absurd (omega arith)
+cut-at (n ∷ counts) [] k h l = absurd (omega arith)
+cut-at (n ∷ counts) (row ∷ rows) zero h l = refl
+cut-at (n ∷ counts) (row ∷ rows) (suc k) h l = cut-at counts rows k (omega arith) (omega arith)
+
+pub docks-row : (row : List ℕ) (k : ℕ) → length row ≡ 160 → getD row 53 0 ≤ 8 → k < getD row 53 0
+    → getD (truckIn row .docks) k [] ≡ take (getD row (62 + k) 0) (part (70 + 8 * k) 8 row)
+unfolding truckIn
+docks-row row k e few h =
+    let count = getD row 53 0 in
+    cut-at (part 62 count row) (chunks 8 8 (drop 70 row)) k (omega (arith, length-part 62 count row (omega arith)))
+    (omega (arith, length-chunks 8 8 (drop 70 row)))
+    ∙ ap₂ take (part-at 62 count k row 0 h) (chunk-at 8 8 k 70 row (omega arith))
+
+module _ (m : Limits) (t : List ℕ) where
+  -- ---- the counts
+  pub items-counted : length (instanceIn m t .items) ≡ getD t 3 0
+  unfolding instanceIn
+  items-counted = length-chunks 16 (getD t 3 0) (drop itemsAt t)
+
+  pub trucks-counted : length (instanceIn m t .trucks) ≡ getD t 4 0
+  unfolding instanceIn
+  trucks-counted = length-made truckIn 160 (getD t 4 0) (drop (trucksAt m) t)
+
+  pub stacks-counted : length (stacksIn m t) ≡ getD t 5 0
+  unfolding stacksIn
+  stacks-counted = length-made (stackIn (drop (loadsAt m) t)) 8 (getD t 5 0) (drop (stacksAt m) t)
+
+  -- ---- the rows
+  item-row : (n : ℕ) → IsItem (instanceIn m t) n → item (instanceIn m t) n ≡ part (16 * n) 16 t
+  unfolding instanceIn
+  item-row n h =
+      let e : itemsAt + 16 * (n - 1) ≡ 16 * n = omega (arith, h .0) in
+      chunk-at 16 (getD t 3 0) (n - 1) itemsAt t (omega (arith, h .0, h .1, items-counted)) ∙ ap (λ (at : ℕ). part at 16 t) e
+
+  pub truck-row : (n : ℕ) → IsTruck (instanceIn m t) n → truckNumbered (instanceIn m t) n ≡ truckIn (part (truckPlace m n) 160 t)
+  unfolding instanceIn
+  truck-row n h = made-at truckIn 160 (getD t 4 0) (n - 1) (trucksAt m) t noTruck (omega (arith, h .0, h .1, trucks-counted))
+
+  stack-row : (s : ℕ) → s < length (stacksIn m t) → stackAt (stacksIn m t) s ≡ stackIn (drop (loadsAt m) t) (part (stackPlace m s) 8 t)
+  unfolding stacksIn
+  stack-row s h = made-at (stackIn (drop (loadsAt m) t)) 8 (getD t 5 0) s (stacksAt m) t noStack (omega (arith, h, stacks-counted))
+
+  -- ---- the fields
+  pub item-word : (n f : ℕ) → IsItem (instanceIn m t) n → f < 16 → getD (item (instanceIn m t) n) f 0 ≡ getD t (16 * n + f) 0
+  item-word n f h l = rw (item-row n h) (part-at (16 * n) 16 f t 0 l)
+
+  pub truck-word : (n f : ℕ) → IsTruck (instanceIn m t) n → f < 20 → getD (truckNumbered (instanceIn m t) n .fields) f 0 ≡ getD t (truckPlace m n + f) 0
+  unfolding truckIn
+  truck-word n f h l = rw (truck-row n h) (getD-take 20 (part (truckPlace m n) 160 t) f 0 l ∙ part-at (truckPlace m n) 160 f t 0 (omega arith))
+
+  pub stack-word : (s f : ℕ) → s < length (stacksIn m t) → f < 6 → getD (stackAt (stacksIn m t) s .fields) f 0 ≡ getD t (stackPlace m s + f) 0
+  unfolding stackIn
+  stack-word s f h l = rw (stack-row s h) (getD-take 6 (part (stackPlace m s) 8 t) f 0 l ∙ part-at (stackPlace m s) 8 f t 0 (omega arith))
+
+  -- ---- the load
+  pub load-words : (s : ℕ) → s < length (stacksIn m t) → stackAt (stacksIn m t) s .load ≡ part (loadsAt m + loadFirst m t s) (loadCount m t s) t
+  unfolding stackIn
+  load-words s h =
+      rw (stack-row s h, part-at (stackPlace m s) 8 7 t 0 (omega arith), part-at (stackPlace m s) 8 6 t 0 (omega arith))
+      (ap (take (loadCount m t s)) (drop-drop (loadFirst m t s) (loadsAt m) t))

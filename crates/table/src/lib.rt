@@ -1,0 +1,257 @@
+// The working table: where its parts begin, clearing, and the accessors. No other code knows where a word stands in a filled table.
+ghost use mathlib.Core.Path.{_≡_};
+ghost use Prim.Native.Nat.{ℕ, _+_, _-_, _*_, _≤_, _<_};
+ghost use lib.ListN.{length, getD, take, drop, replicate};
+ghost use Rattle.meaning.specs.Lists.{orderIn};
+ghost use Rattle.meaning.specs.Limits.{small, trucksAt, stacksAt, loadsAt, named};
+ghost use Rattle.meaning.specs.Model.{item, truckNumbered};
+ghost use Rattle.meaning.specs.Table.{instanceIn, stacksIn};
+ghost use Rattle.table.specs.Filled.{Bounded, Filled, stackAt, IsItem, IsTruck, docksOf, itemMost, truckMost, stackMost};
+use meaning::Limits;
+
+// ---- where the parts of the table begin
+
+// The limits of document 01: 256 items, 16 trucks, 256 stacks, 256 load entries, files of 65,535 bytes.
+pub fn small_limits() -> Limits
+    ensures { λ r. ⌜ (r ≡ small) × Bounded r ⌝ }
+{
+    Limits {
+        items: 256,
+        trucks: 16,
+        stacks: 256,
+        loads: 256,
+        bytes: 65535,
+    }
+}
+
+// The first word of the trucks, behind the head's 16 words and the items.
+pub fn trucks_at(limits: Limits) -> usize
+    requires { ⌜ Bounded limits ⌝ }
+    ensures { λ r. ⌜ r ≡ trucksAt limits ⌝ }
+{
+    16 + 16 * limits.items
+}
+
+// The first word of the stacks, behind the trucks.
+pub fn stacks_at(limits: Limits) -> usize
+    requires { ⌜ Bounded limits ⌝ }
+    ensures { λ r. ⌜ r ≡ stacksAt limits ⌝ }
+{
+    trucks_at(limits) + 160 * limits.trucks
+}
+
+// The first word of the loads, behind the stacks.
+pub fn loads_at(limits: Limits) -> usize
+    requires { ⌜ Bounded limits ⌝ }
+    ensures { λ r. ⌜ r ≡ loadsAt limits ⌝ }
+{
+    stacks_at(limits) + 8 * limits.stacks
+}
+
+// How many words are named.
+pub fn named_words(limits: Limits) -> usize
+    requires { ⌜ Bounded limits ⌝ }
+    ensures { λ r. ⌜ r ≡ named limits ⌝ }
+{
+    loads_at(limits) + limits.loads
+}
+
+// Every word becomes zero.
+pub fn clear(words: &mut [u32])
+    ensures { λ _. ⌜ now (words .exit) ≡ replicate (length (now (words .entry))) 0 ⌝ }
+{
+    let mut i = 0;
+    while i < words.len() {
+        words[i] = 0;
+        i += 1;
+    }
+}
+
+// ---- the accessors of a filled table
+
+// A word as a count or a place.
+fn as_index(word: u32) -> usize
+    ensures { λ r. ⌜ (r ≡ word) × (r < 4294967296) ⌝ }
+{
+    word as usize
+}
+
+// The coefficient of the transport cost.
+pub fn transport_coefficient(t: &[u32], limits: Limits) -> u32
+    requires { ⌜ Filled limits (now t) ⌝ }
+    ensures { λ r. ⌜ (r ≡ instanceIn limits (now (t .entry)) .αT) × (r ≤ 1000) ⌝ }
+{
+    t[0]
+}
+
+// The coefficient of the inventory cost.
+pub fn inventory_coefficient(t: &[u32], limits: Limits) -> u32
+    requires { ⌜ Filled limits (now t) ⌝ }
+    ensures { λ r. ⌜ (r ≡ instanceIn limits (now (t .entry)) .αI) × (r ≤ 1000) ⌝ }
+{
+    t[1]
+}
+
+// The coefficient of an extra truck's cost, in thousandths.
+pub fn extra_coefficient(t: &[u32], limits: Limits) -> u32
+    requires { ⌜ Filled limits (now t) ⌝ }
+    ensures { λ r. ⌜ (r ≡ instanceIn limits (now (t .entry)) .αE) × (r ≤ 1000) ⌝ }
+{
+    t[2]
+}
+
+// How many items there are.
+pub fn item_count(t: &[u32], limits: Limits) -> u32
+    requires { ⌜ Filled limits (now t) ⌝ }
+    ensures { λ r. ⌜ (r ≡ length (instanceIn limits (now (t .entry)) .items)) × (1 ≤ r) × (r ≤ limits .items) ⌝ }
+{
+    t[3]
+}
+
+// How many trucks there are.
+pub fn truck_count(t: &[u32], limits: Limits) -> u32
+    requires { ⌜ Filled limits (now t) ⌝ }
+    ensures { λ r. ⌜ (r ≡ length (instanceIn limits (now (t .entry)) .trucks)) × (1 ≤ r) × (r ≤ limits .trucks) ⌝ }
+{
+    t[4]
+}
+
+// How many stacks there are.
+pub fn stack_count(t: &[u32], limits: Limits) -> usize
+    requires { ⌜ Filled limits (now t) ⌝ }
+    ensures { λ r. ⌜ (r ≡ length (stacksIn limits (now (t .entry)))) × (r ≤ limits .stacks) ⌝ }
+{
+    as_index(t[5])
+}
+
+// A field of an item's line.
+pub fn item_field(t: &[u32], limits: Limits, n: u32, field: usize) -> u32
+    requires { ⌜ Filled limits (now t) × IsItem (instanceIn limits (now t)) n × (field < 16) ⌝ }
+    ensures { λ r. ⌜ (r ≡ getD (item (instanceIn limits (now (t .entry))) n) field 0) × (r ≤ itemMost field) ⌝ }
+{
+    let row = 16 * as_index(n);
+    t[row + field]
+}
+
+// The first word of a truck.
+fn truck_at(t: &[u32], limits: Limits, n: u32) -> usize
+    requires { ⌜ Filled limits (now t) × IsTruck (instanceIn limits (now t)) n ⌝ }
+    ensures { λ r. ⌜ (r ≡ trucksAt limits + 160 * (n - 1)) × (r + 160 ≤ length (now (t .entry))) ⌝ }
+{
+    trucks_at(limits) + 160 * (as_index(n) - 1)
+}
+
+// A field of a truck's line.
+pub fn truck_field(t: &[u32], limits: Limits, n: u32, field: usize) -> u32
+    requires { ⌜ Filled limits (now t) × IsTruck (instanceIn limits (now t)) n × (field < 20) ⌝ }
+    ensures { λ r. ⌜ (r ≡ getD (truckNumbered (instanceIn limits (now (t .entry))) n .fields) field 0) × (r ≤ truckMost field) ⌝ }
+{
+    let base = truck_at(t, limits, n);
+    t[base + field]
+}
+
+// A list that stands behind its count.
+fn counted<'a>(t: &'a [u32], at: usize) -> &'a [u32]
+    requires { ⌜ (at < length (now t)) × (at + 1 + getD (now t) at 0 ≤ length (now t)) ⌝ }
+    ensures { λ r. ⌜ now r ≡ take (getD (now (t .entry)) at 0) (drop (at + 1) (now (t .entry))) ⌝ }
+{
+    let first = at + 1;
+    let end = first + as_index(t[at]);
+    &t[first..end]
+}
+
+// The products that a truck carries.
+pub fn products<'a>(t: &'a [u32], limits: Limits, n: u32) -> &'a [u32]
+    requires { ⌜ Filled limits (now t) × IsTruck (instanceIn limits (now t)) n ⌝ }
+    ensures { λ r. ⌜ (now r ≡ truckNumbered (instanceIn limits (now (t .entry))) n .products) × (length (now r) ≤ 32) ⌝ }
+{
+    let base = truck_at(t, limits, n);
+    counted(t, base + 20)
+}
+
+// The suppliers that a truck visits, in their loading order.
+pub fn suppliers<'a>(t: &'a [u32], limits: Limits, n: u32) -> &'a [u32]
+    requires { ⌜ Filled limits (now t) × IsTruck (instanceIn limits (now t)) n ⌝ }
+    ensures { λ r. ⌜ (now r ≡ truckNumbered (instanceIn limits (now (t .entry))) n .suppliers) × (length (now r) ≤ 8) ⌝ }
+{
+    let base = truck_at(t, limits, n);
+    counted(t, base + 53)
+}
+
+// The docks of a truck's supplier, who is given by the loading order.
+pub fn docks<'a>(t: &'a [u32], limits: Limits, n: u32, supplier: usize) -> &'a [u32]
+    requires { ⌜ Filled limits (now t) × IsTruck (instanceIn limits (now t)) n × (1 ≤ supplier) × (supplier ≤ length (truckNumbered (instanceIn limits (now t)) n .suppliers)) ⌝ }
+    ensures { λ r. ⌜ (now r ≡ docksOf (truckNumbered (instanceIn limits (now (t .entry))) n) supplier) × (length (now r) ≤ 8) ⌝ }
+{
+    let base = truck_at(t, limits, n);
+    let first = base + 62 + 8 * supplier;
+    let end = first + as_index(t[base + 61 + supplier]);
+    &t[first..end]
+}
+
+// The plant docks of a truck, in their loading order.
+pub fn plant_docks<'a>(t: &'a [u32], limits: Limits, n: u32) -> &'a [u32]
+    requires { ⌜ Filled limits (now t) × IsTruck (instanceIn limits (now t)) n ⌝ }
+    ensures { λ r. ⌜ (now r ≡ truckNumbered (instanceIn limits (now (t .entry))) n .plantDocks) × (length (now r) ≤ 8) ⌝ }
+{
+    let base = truck_at(t, limits, n);
+    counted(t, base + 134)
+}
+
+// The place of an identifier in its line, from 1, which is its loading order; 0 where it is not listed.
+pub fn order_in(list: &[u32], identifier: u32) -> usize
+    ensures { λ r. ⌜ (r ≡ orderIn (now (list .entry)) identifier) × (r ≤ length (now (list .entry))) ⌝ }
+{
+    let mut i = 0;
+    while i < list.len() {
+        if list[i] == identifier {
+            return i + 1;
+        }
+        i += 1;
+    }
+    0
+}
+
+// A field of a stack's line. Stacks go by their place in the file, from 0.
+pub fn stack_field(t: &[u32], limits: Limits, s: usize, field: usize) -> u32
+    requires { ⌜ Filled limits (now t) × (s < length (stacksIn limits (now t))) × (field < 6) ⌝ }
+    ensures { λ r. ⌜ (r ≡ getD (stackAt (stacksIn limits (now (t .entry))) s .fields) field 0) × (r ≤ stackMost field) ⌝ }
+{
+    let row = stacks_at(limits) + 8 * s;
+    t[row + field]
+}
+
+// The number of the truck that a stack is on.
+pub fn stack_truck(t: &[u32], limits: Limits, s: usize) -> u32
+    requires { ⌜ Filled limits (now t) × (s < length (stacksIn limits (now t))) ⌝ }
+    ensures { λ r. ⌜ (r ≡ getD (stackAt (stacksIn limits (now (t .entry))) s .fields) 1 0) × IsTruck (instanceIn limits (now (t .entry))) r ⌝ }
+{
+    stack_field(t, limits, s, 1)
+}
+
+// How many items a stack has.
+pub fn load_count(t: &[u32], limits: Limits, s: usize) -> usize
+    requires { ⌜ Filled limits (now t) × (s < length (stacksIn limits (now t))) ⌝ }
+    ensures { λ r. ⌜ (r ≡ length (stackAt (stacksIn limits (now (t .entry))) s .load)) × (1 ≤ r) × (r ≤ 64) ⌝ }
+{
+    let row = stacks_at(limits) + 8 * s;
+    as_index(t[row + 7])
+}
+
+// Where a stack's load begins in the table.
+fn load_at(t: &[u32], limits: Limits, s: usize) -> usize
+    requires { ⌜ Filled limits (now t) × (s < length (stacksIn limits (now t))) ⌝ }
+    ensures { λ r. ⌜ (r ≡ loadsAt limits + getD (now (t .entry)) (stacksAt limits + 8 * s + 6) 0) × (r + length (stackAt (stacksIn limits (now (t .entry))) s .load) ≤ length (now (t .entry))) ⌝ }
+{
+    let row = stacks_at(limits) + 8 * s;
+    loads_at(limits) + as_index(t[row + 6])
+}
+
+// The number of an item of a stack, by its place in the load, from 0 at the bottom.
+pub fn load_entry(t: &[u32], limits: Limits, s: usize, j: usize) -> u32
+    requires { ⌜ Filled limits (now t) × (s < length (stacksIn limits (now t))) × (j < length (stackAt (stacksIn limits (now t)) s .load)) ⌝ }
+    ensures { λ r. ⌜ (r ≡ getD (stackAt (stacksIn limits (now (t .entry))) s .load) j 0) × IsItem (instanceIn limits (now (t .entry))) r ⌝ }
+{
+    let first = load_at(t, limits, s);
+    t[first + j]
+}
