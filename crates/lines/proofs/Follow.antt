@@ -1,0 +1,141 @@
+-- From one answer to the next: readers one after another, and the same reader some times over, for callers that hand an answer on.
+use mathlib.Core.Path.{_≡_, refl, sym, ap, subst, _∙_}
+use mathlib.Core.List.{List, [], _∷_, _++_, append-assoc, append-nil}
+use Prim.Native.Nat.{ℕ, suc}
+use native.Mathlib.Omega.{arith}
+use lib.ListN.{drop}
+use Rattle.meaning.specs.Text.{Form}
+use Rattle.meaning.specs.Reader.{Outcome, found, wrongForm, outOfRange, Reader, onward, line, times}
+use Rattle.meaning.specs.InRange.{Meets}
+use Rattle.meaning.proofs.Outcomes.{Leaves, leaves-line}
+use Rattle.lines.specs.declared.Progress.{Progress}
+use Rattle.lines.specs.declared.Progress.the-variants.{Next, WrongForm, OutOfRange}
+use Rattle.lines.specs.Progress.{reached, resumed, Going, ReadInto}
+
+-- ---- outcomes
+-- going on in the same way
+onward-same : {A B : Type 0} (x : Outcome A) (f g : A → Reader B) → ((a : A) (n : ℕ) (bs : List ℕ) → f a n bs ≡ g a n bs) → onward x f ≡ onward x g
+unfolding onward
+onward-same (found a n bs) f g h = h a n bs
+onward-same (wrongForm n) f g h = refl
+onward-same (outOfRange n) f g h = refl
+
+-- going on twice
+onward-twice : {A B C : Type 0} (x : Outcome A) (f : A → Reader B) (g : B → Reader C)
+    → onward (onward x f) g ≡ onward x (λ a n bs. onward (f a n bs) g)
+unfolding onward
+onward-twice (found a n bs) f g = refl
+onward-twice (wrongForm n) f g = refl
+onward-twice (outOfRange n) f g = refl
+
+-- going on without reading changes nothing
+onward-give : {A : Type 0} (x : Outcome A) → onward x (λ a n bs. found a n bs) ≡ x
+unfolding onward
+onward-give (found a n bs) = refl
+onward-give (wrongForm n) = refl
+onward-give (outOfRange n) = refl
+
+-- ---- one reader after another
+-- what is done to the value first may be done to it on the way
+pub on-reached : {A B C : Type 0} (file : List ℕ) (a : A) (p : Progress) (g : A → B) (K : B → Reader C)
+    → onward (reached file a p) (λ x. K (g x)) ≡ onward (reached file (g a) p) K
+unfolding onward
+on-reached file a (Next at n k) g K = refl
+on-reached file a (WrongForm n) g K = refl
+on-reached file a (OutOfRange n) g K = refl
+
+-- the last reader of a block only gives a value
+pub give-reached : {A B : Type 0} (file : List ℕ) (a : A) (p : Progress) (g : A → B)
+    → onward (reached file a p) (λ x n bs. found (g x) n bs) ≡ reached file (g a) p
+unfolding onward
+give-reached file a (Next at n k) g = refl
+give-reached file a (WrongForm n) g = refl
+give-reached file a (OutOfRange n) g = refl
+
+-- the first reader of a block
+pub first-reached : {A B : Type 0} (file : List ℕ) (p : Progress) (R : Reader A) (K : A → Reader B)
+    → resumed file p (λ n bs. onward (R n bs) K) ≡ onward (resumed file p R) K
+unfolding onward
+first-reached file (Next at n k) R K = refl
+first-reached file (WrongForm n) R K = refl
+first-reached file (OutOfRange n) R K = refl
+
+-- two readers, one after the other: what the second has reached decides
+pub then-reached : {A B C : Type 0} (file : List ℕ) (a : A) (b : B) (p q : Progress) (Y : A → Reader B) (K : A → B → Reader C)
+    → reached file b q ≡ resumed file p (Y a)
+    → onward (reached file a p) (λ x n bs. onward (Y x n bs) (K x)) ≡ onward (reached file b q) (K a)
+unfolding onward
+then-reached file a b (Next at n k) q Y K e = rw e
+then-reached file a b (WrongForm n) q Y K e = rw e
+then-reached file a b (OutOfRange n) q Y K e = rw e
+
+-- a refusal stays: where none came out, none came in
+pub going-before : {B : Type 0} (file : List ℕ) (b : B) (p q : Progress) (R : Reader B) → reached file b q ≡ resumed file p R → Going q → Going p
+going-before file b (Next at n k) q R e g = tt
+going-before file b (WrongForm n) (Next at′ n′ k′) R e g = let z : _≡_ {A = ℕ} 0 1 = cc in omega arith
+going-before file b (WrongForm n) (WrongForm n′) R e g = g
+going-before file b (WrongForm n) (OutOfRange n′) R e g = g
+going-before file b (OutOfRange n) (Next at′ n′ k′) R e g = let z : _≡_ {A = ℕ} 0 1 = cc in omega arith
+going-before file b (OutOfRange n) (WrongForm n′) R e g = g
+going-before file b (OutOfRange n) (OutOfRange n′) R e g = g
+
+-- after a refusal the value does not matter
+pub same-reached : {A : Type 0} (file : List ℕ) (a b : A) (p : Progress) → (Going p → a ≡ b) → reached file a p ≡ reached file b p
+same-reached file a b (Next at n k) h = rw (h tt) refl
+same-reached file a b (WrongForm n) h = refl
+same-reached file a b (OutOfRange n) h = refl
+
+-- the entries of a line that was not refused meet its form
+pub read-meets : (file ns : List ℕ) (f : Form) (p r : Progress) → reached file ns r ≡ resumed file p (line f) → Going r → Meets f ns
+read-meets file ns f (Next at n k) r e g = read r g (subst (Leaves (λ l rest. Meets f l)) (sym e) (leaves-line f _ (suc n) (drop at file) (λ l rest ms s t m. m)))
+  where
+    read : (r : Progress) → Going r → Leaves (λ l rest. Meets f l) (reached file ns r) → Meets f ns
+    read (Next at n k) g m = m
+    read (WrongForm n) g m = absurd g
+    read (OutOfRange n) g m = absurd g
+read-meets file ns f (WrongForm n) r e g = absurd (going-before file ns (WrongForm n) r (line f) e g)
+read-meets file ns f (OutOfRange n) r e g = absurd (going-before file ns (OutOfRange n) r (line f) e g)
+
+-- what is read into a part is read into the whole
+pub read-within : {A : Type 0} (file : List ℕ) (reader : Reader A) (words : A → List ℕ) (p r : Progress) (out : List ℕ) (whole : List ℕ → List ℕ)
+    → ReadInto file reader words p r out → ReadInto file reader (λ a. whole (words a)) p r (whole out)
+read-within file reader words p r out whole i =
+    record { value = i .value; says = i .says; holds = λ g. ap whole (i .holds g); sound = i .sound }
+
+-- ---- the same reader some times over
+module _ {A : Type 0} (R : Reader A) where
+  -- m times more, behind the values that were read
+  abbrev pub more : ℕ → List A → Reader (List A)
+  more m vs n bs = onward (times m R n bs) (λ rest n bs. found (vs ++ rest) n bs)
+
+  -- one of them, and then one fewer
+  more-one : (m : ℕ) (vs : List A) (n : ℕ) (bs : List ℕ) → more (suc m) vs n bs ≡ onward (R n bs) (λ v. more m (vs ++ v ∷ []))
+  unfolding times
+  more-one m vs n bs =
+      onward-twice (R n bs) _ _
+      ∙ onward-same (R n bs) _ (λ v. more m (vs ++ v ∷ [])) (λ v n₁ bs₁.
+      onward-twice (times m R n₁ bs₁) _ _
+      ∙ onward-same (times m R n₁ bs₁) _ _ (λ rest n₂ bs₂. ap (λ (l : List A). found l n₂ bs₂) (sym (append-assoc vs (v ∷ []) rest))))
+
+  module _ (file : List ℕ) where
+    -- before the first
+    pub times-first : (n : ℕ) (p : Progress) → onward (reached file [] p) (more n) ≡ resumed file p (times n R)
+    unfolding onward
+    times-first n (Next at l k) = onward-give (times n R (suc l) (drop at file))
+    times-first n (WrongForm l) = refl
+    times-first n (OutOfRange l) = refl
+
+    -- after one more
+    pub times-next : (vs : List A) (v : A) (m : ℕ) (q q′ : Progress) → reached file v q′ ≡ resumed file q R
+        → onward (reached file vs q) (more (suc m)) ≡ onward (reached file (vs ++ v ∷ []) q′) (more m)
+    times-next vs v m q q′ e =
+        onward-same (reached file vs q) (more (suc m)) _ (more-one m)
+        ∙ then-reached file vs v q q′ (λ x. R) (λ x w. more m (x ++ w ∷ [])) e
+        ∙ on-reached file v q′ (λ w. vs ++ w ∷ []) (more m)
+
+    -- after the last
+    pub times-done : (vs : List A) (q : Progress) → onward (reached file vs q) (more 0) ≡ reached file vs q
+    unfolding onward times
+    times-done vs (Next at l k) = rw (append-nil vs) refl
+    times-done vs (WrongForm l) = refl
+    times-done vs (OutOfRange l) = refl

@@ -1,0 +1,9 @@
+pub mod Follow
+pub mod Largest
+pub mod Keys
+pub mod Scan
+pub mod Storing
+pub mod Judging
+pub mod Number
+pub mod Ended
+pub mod FullLines

@@ -1,0 +1,233 @@
+// One line after another: each is stored, then judged by its form's ranges. Every function takes the answer so far and returns the next
+// one; a refusal that comes in goes out unchanged, so callers need no branches.
+ghost use mathlib.Core.Path.{_≡_};
+ghost use mathlib.Core.Bool.{_&&_};
+ghost use Prim.Native.Nat.{ℕ, _+_, _-_, _≤_, _<_};
+ghost use lib.ListN.{length};
+ghost use Rattle.meaning.specs.Lists.{Every, all, between, listed, distinct, padded};
+ghost use Rattle.meaning.specs.Text.{Form, bytes};
+ghost use Rattle.meaning.specs.Reader.{line};
+ghost use Rattle.meaning.specs.Files.{allWithin, rowLine, identifiersLine, numberLine, _to_};
+ghost use Rattle.meaning.specs.Table.{countedWords};
+ghost use Rattle.lines.specs.Progress.{Key, reached, resumed, entriesOf, Sound, unjudged, judgedAs, endedAs, Unpassed, Stored, RefusesLargest, ranges, ReadEntries};
+use table::clear;
+use text::ParsedLine;
+use text::parse_line;
+
+// How far a file is read: the place of the next line, how many lines are passed and how many entries the last of them has; or how many
+// lines stand before the first bad one, which is wrong in form or out of range.
+pub enum Progress {
+    Next(usize, usize, usize),
+    WrongForm(usize),
+    OutOfRange(usize),
+}
+
+// ---- tests of ranges
+
+// Whether each word lies in its range.
+pub fn in_ranges(words: &[u32], lows: &[u32], highs: &[u32]) -> bool
+    requires { ⌜ (length (now words) ≤ length (now lows)) × (length (now words) ≤ length (now highs)) ⌝ }
+    ensures { λ r. ⌜ r ≡ allWithin (ranges (now (lows .entry)) (now (highs .entry))) (now (words .entry)) ⌝ }
+{
+    let mut i = 0;
+    while i < words.len() {
+        if words[i] < lows[i] {
+            return false;
+        }
+        if highs[i] < words[i] {
+            return false;
+        }
+        i += 1;
+    }
+    true
+}
+
+// Whether all words lie in one range.
+pub fn all_between(words: &[u32], low: u32, high: u32) -> bool
+    ensures { λ r. ⌜ r ≡ all (between low high) (now (words .entry)) ⌝ }
+{
+    let mut i = 0;
+    while i < words.len() {
+        if words[i] < low {
+            return false;
+        }
+        if high < words[i] {
+            return false;
+        }
+        i += 1;
+    }
+    true
+}
+
+// Whether the word is listed.
+pub fn is_listed(words: &[u32], word: u32) -> bool
+    ensures { λ r. ⌜ r ≡ listed word (now (words .entry)) ⌝ }
+{
+    let mut i = 0;
+    while i < words.len() {
+        if words[i] == word {
+            return true;
+        }
+        i += 1;
+    }
+    false
+}
+
+// Whether no word is listed twice.
+pub fn are_distinct(words: &[u32]) -> bool
+    ensures { λ r. ⌜ r ≡ distinct (now (words .entry)) ⌝ }
+{
+    let mut i = 0;
+    while i < words.len() {
+        let next = i + 1;
+        if is_listed(&words[next..], words[i]) {
+            return false;
+        }
+        i = next;
+    }
+    true
+}
+
+// Whether the words are distinct identifiers.
+pub fn are_identifiers(words: &[u32]) -> bool
+    ensures { λ r. ⌜ r ≡ (all (between 1 65535) (now (words .entry)) && distinct (now (words .entry))) ⌝ }
+{
+    if all_between(words, 1, 65535) {
+        are_distinct(words)
+    } else {
+        false
+    }
+}
+
+// ---- lines
+
+// How many entries the last line has; none after a refusal.
+pub fn entries(p: Progress) -> usize
+    ensures { λ r. ⌜ r ≡ entriesOf p ⌝ }
+{
+    match p {
+        Progress::Next(_, _, count) => count,
+        Progress::WrongForm(_) => 0,
+        Progress::OutOfRange(_) => 0,
+    }
+}
+
+// Stores the numbers of the next line. Their ranges are not judged yet, and the line is not yet passed.
+pub fn stored_line(file: &[u8], p: Progress, key: &[u8], least: usize, out: &mut [u32]) -> Progress
+    requires { ⌜ Sound (now file) p ⌝ }
+    ensures says { λ r. ⌜ ((f : Form) → bytes (f .key) ≡ now (key .entry) → f .least ≡ least → f .most ≡ length (now (out .entry)) → RefusesLargest f → unjudged f (now (file .entry)) (now (out .exit)) r ≡ resumed (now (file .entry)) p (line f)) ⌝ }
+    ensures unpassed { λ r. ⌜ Unpassed (now (file .entry)) r ⌝ }
+    ensures stored { λ r. ⌜ Stored least (now (out .entry)) (now (out .exit)) r ⌝ }
+{
+    match p {
+        Progress::Next(at, lines, _) => match parse_line(file, at, key, least, out) {
+            ParsedLine::Next(next, count) => Progress::Next(next, lines, count),
+            ParsedLine::WrongForm => Progress::WrongForm(lines),
+        },
+        Progress::WrongForm(lines) => Progress::WrongForm(lines),
+        Progress::OutOfRange(lines) => Progress::OutOfRange(lines),
+    }
+}
+
+// The stored line is passed where it is in range. A line of wrong form was refused before.
+pub fn judged(file: &[u8], p: Progress, in_range: bool) -> Progress
+    requires { ⌜ Unpassed (now file) p ⌝ }
+    ensures { λ r. ⌜ r ≡ judgedAs p in_range ⌝ }
+{
+    match p {
+        Progress::Next(at, lines, count) => {
+            if in_range {
+                Progress::Next(at, lines + 1, count)
+            } else {
+                Progress::OutOfRange(lines)
+            }
+        }
+        Progress::WrongForm(lines) => Progress::WrongForm(lines),
+        Progress::OutOfRange(lines) => Progress::OutOfRange(lines),
+    }
+}
+
+// The end of the file: a line too many is wrong in form.
+pub fn at_end(file: &[u8], p: Progress) -> Progress
+    ensures { λ r. ⌜ r ≡ endedAs (length (now (file .entry))) p ⌝ }
+{
+    match p {
+        Progress::Next(at, lines, count) => {
+            if at < file.len() {
+                Progress::WrongForm(lines)
+            } else {
+                Progress::Next(at, lines, count)
+            }
+        }
+        Progress::WrongForm(lines) => Progress::WrongForm(lines),
+        Progress::OutOfRange(lines) => Progress::OutOfRange(lines),
+    }
+}
+
+// A line with one entry for each range.
+pub fn row_line(
+    file: &[u8],
+    p: Progress,
+    key: &[u8],
+    lows: &[u32],
+    highs: &[u32],
+    out: &mut [u32],
+) -> Progress
+    requires { ⌜ Sound (now file) p × (length (now lows) ≡ length (now out)) × (length (now highs) ≡ length (now out)) × Every (λ h. h < 4294967295) (now highs) ⌝ }
+    ensures { λ r. ⌜ ((k : Key) → bytes k ≡ now (key .entry) → ReadEntries (now (file .entry)) (line (rowLine k (ranges (now (lows .entry)) (now (highs .entry))))) (λ ns. ns) p r (now (out .exit))) ⌝ }
+{
+    let stored = stored_line(file, p, key, out.len(), out);
+    let count = entries(stored);
+    let in_range = in_ranges(&out[0..count], lows, highs);
+    judged(file, stored, in_range)
+}
+
+// A line of distinct identifiers, at most as many as there is room for, with zeros behind them.
+pub fn identifiers_line(file: &[u8], p: Progress, key: &[u8], out: &mut [u32]) -> Progress
+    requires { ⌜ Sound (now file) p ⌝ }
+    ensures { λ r. ⌜ ((k : Key) → bytes k ≡ now (key .entry) → ReadEntries (now (file .entry)) (line (identifiersLine k (length (now (out .entry))))) (padded (length (now (out .entry)))) p r (now (out .exit))) ⌝ }
+{
+    clear(out);
+    let stored = stored_line(file, p, key, 1, out);
+    let count = entries(stored);
+    let in_range = are_identifiers(&out[0..count]);
+    judged(file, stored, in_range)
+}
+
+// The same behind the number of entries.
+pub fn counted_line(file: &[u8], p: Progress, key: &[u8], out: &mut [u32]) -> Progress
+    requires { ⌜ Sound (now file) p × (1 ≤ length (now out)) × (length (now out) ≤ 65) ⌝ }
+    ensures { λ r. ⌜ ((k : Key) → bytes k ≡ now (key .entry) → ReadEntries (now (file .entry)) (line (identifiersLine k (length (now (out .entry)) - 1))) (countedWords (length (now (out .entry)) - 1)) p r (now (out .exit))) ⌝ }
+{
+    let r = identifiers_line(file, p, key, &mut out[1..]);
+    out[0] = entries(r) as u32;
+    r
+}
+
+// The number of a line that has one, 0 after a refusal.
+pub struct NumberRead {
+    pub progress: Progress,
+    pub value: u32,
+}
+
+// A line with one number.
+pub fn number_line(file: &[u8], p: Progress, key: &[u8], low: u32, high: u32) -> NumberRead
+    requires { ⌜ Sound (now file) p × (high < 4294967295) ⌝ }
+    ensures says { λ r. ⌜ ((k : Key) → bytes k ≡ now (key .entry) → reached (now (file .entry)) (r .value) (r .progress) ≡ resumed (now (file .entry)) p (numberLine k (low to high))) ⌝ }
+    ensures sound { λ r. ⌜ Sound (now (file .entry)) (r .progress) × (r .value ≤ high) ⌝ }
+{
+    let lows = [low];
+    let highs = [high];
+    let mut out: [u32; 1] = [0];
+    let progress = row_line(file, p, key, &lows, &highs, &mut out);
+    if entries(progress) == 0 {
+        return NumberRead {
+            progress: progress,
+            value: 0,
+        };
+    }
+    NumberRead {
+        progress: progress,
+        value: out[0],
+    }
+}
