@@ -1,0 +1,27 @@
+-- What the answers of this crate say, in the words of the meaning.
+use mathlib.Core.Bool.{Bool, true, false}
+use mathlib.Core.Option.{Option, none, some}
+use Prim.Native.Nat.{ℕ}
+use Rattle.meaning.specs.BadLine.{Span, span, File, inInstance, inPlan, Part}
+use Rattle.badline.specs.declared.LineFound.{LineFound}
+use Rattle.badline.specs.declared.LineFound.the-variants.{At, Absent}
+use Rattle.badline.specs.declared.BadLine.{BadLine}
+
+-- where a line was found
+abbrev pub spanOf : LineFound → Option Span
+spanOf (At start end) = some (span start end)
+spanOf Absent = none
+
+-- the file that the bad line stands in
+abbrev pub fileOf : Bool → File
+fileOf true = inPlan
+fileOf false = inInstance
+
+-- "that part of the file it stands in"
+abbrev pub partOf : BadLine → Part
+partOf r = record { file = fileOf (r .plan); span = span (r .start) (r .end) }
+
+-- the part of a line that was found, or else the empty one at the instance's end
+abbrev pub placeOr : LineFound → Bool → ℕ → Part
+placeOr (At start end) plan fallback = record { file = fileOf plan; span = span start end }
+placeOr Absent plan fallback = record { file = inInstance; span = span fallback fallback }

@@ -1,0 +1,82 @@
+// After the check: the bad line, handed back as a part of the file that it stands in.
+ghost use mathlib.Core.Path.{_≡_};
+ghost use Rattle.meaning.specs.BadLine.{lineSpan, handedBack, partBytes};
+ghost use Rattle.badline.specs.Places.{spanOf, partOf, placeOr};
+use text::first_byte;
+
+// Where a line stands in its file: from its first byte up to its end, which is not included.
+pub enum LineFound {
+    At(usize, usize),
+    Absent,
+}
+
+// A line of a file, counted from 1 and without its byte 10. An unended last line is there too.
+pub fn find_line(file: &[u8], line: u32) -> LineFound
+    ensures { λ r. ⌜ spanOf r ≡ lineSpan line 0 (now (file .entry)) ⌝ }
+{
+    if line == 0 {
+        return LineFound::Absent;
+    }
+    let mut left = line;
+    let mut at: usize = 0;
+    while at < file.len() {
+        let end = first_byte(file, at, 10);
+        if left == 1 {
+            return LineFound::At(at, end);
+        }
+        left -= 1;
+        at = end + 1;
+    }
+    LineFound::Absent
+}
+
+// Which file the bad line stands in, and from where to where.
+pub struct BadLine {
+    pub plan: bool,
+    pub start: usize,
+    pub end: usize,
+}
+
+// The line's place; the empty one at the instance's end where the line is not there.
+pub fn place_of(found: LineFound, plan: bool, fallback: usize) -> BadLine
+    ensures { λ r. ⌜ partOf r ≡ placeOr found plan fallback ⌝ }
+{
+    match found {
+        LineFound::At(start, end) => BadLine {
+            plan: plan,
+            start: start,
+            end: end,
+        },
+        LineFound::Absent => BadLine {
+            plan: false,
+            start: fallback,
+            end: fallback,
+        },
+    }
+}
+
+// Where the bad line of a verdict stands: in the instance for 4 and 5, in the plan for 7 and 8.
+pub fn locate(instance: &[u8], plan: &[u8], number: u32, line: u32) -> BadLine
+    ensures { λ r. ⌜ partOf r ≡ handedBack (now (instance .entry)) (now (plan .entry)) number line ⌝ }
+{
+    let end = instance.len();
+    match number {
+        4 | 5 => place_of(find_line(instance, line), false, end),
+        7 | 8 => place_of(find_line(plan, line), true, end),
+        _ => place_of(LineFound::Absent, false, end),
+    }
+}
+
+// The bad line of a verdict, as a part of the file that it stands in.
+pub fn bad_line<'a>(instance: &'a [u8], plan: &'a [u8], number: u32, line: u32) -> &'a [u8]
+    ensures { λ r. ⌜ now r ≡ partBytes (now (instance .entry)) (now (plan .entry)) (handedBack (now (instance .entry)) (now (plan .entry)) number line) ⌝ }
+{
+    let place = locate(instance, plan, number, line);
+    let start = place.start;
+    let end = place.end;
+    if place.plan {
+        &plan[start..end]
+    } else {
+        &instance[start..end]
+    }
+}
