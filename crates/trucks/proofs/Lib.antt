@@ -1,0 +1,4 @@
+pub mod Repeat
+pub mod Entries
+pub mod Docks
+pub mod Truck

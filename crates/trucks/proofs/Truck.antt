@@ -1,0 +1,103 @@
+-- A truck's lines one after another, and its words from the five parts that they are read into.
+use mathlib.Core.Path.{_≡_, refl, sym, ap, _∙_}
+use mathlib.Core.List.{List, [], _++_, append-assoc}
+use Prim.Native.Nat.{ℕ, _+_, _-_, _≤_}
+use native.Mathlib.Omega.{arith}
+use lib.ListN.{length, replicate, replicate-append-replicate}
+use Rattle.meaning.specs.Lists.{padded}
+use Rattle.meaning.specs.Model.{Truck}
+use Rattle.meaning.specs.Reader.{Outcome, found, Reader, onward, line, times}
+use Rattle.meaning.specs.Files.{truckLine, productsLine, suppliersLine, docksLine, plantDocksLine, truckLines}
+use Rattle.meaning.specs.Table.{countedWords, truckWords}
+use Rattle.lines.specs.declared.Progress.{Progress}
+use Rattle.lines.specs.declared.Progress.the-variants.{Next, WrongForm, OutOfRange}
+use Rattle.lines.specs.Progress.{reached, resumed, entriesOf, Going, ReadInto, ReadEntries}
+use Rattle.lines.proofs.Follow.{first-reached, then-reached, give-reached}
+use Rattle.trucks.specs.Rows.{dockWords}
+use Rattle.trucks.proofs.Repeat.{no-refusal, Front}
+use Rattle.trucks.proofs.Entries.{few-counted}
+
+-- ---- what is left to read after each line, with what was read before it
+abbrev truckOf : List ℕ → List ℕ → List ℕ → List (List ℕ) → List ℕ → Truck
+truckOf f p s d l = record { fields = f; products = p; suppliers = s; docks = d; plantDocks = l }
+
+abbrev afterDocks : List ℕ → List ℕ → List ℕ → List (List ℕ) → Reader Truck
+afterDocks f p s d n bs = onward (line plantDocksLine n bs) (λ l n bs. found (truckOf f p s d l) n bs)
+
+abbrev afterSuppliers : List ℕ → List ℕ → List ℕ → Reader Truck
+afterSuppliers f p s n bs = onward (times (length s) (line docksLine) n bs) (afterDocks f p s)
+
+abbrev afterProducts : List ℕ → List ℕ → Reader Truck
+afterProducts f p n bs = onward (line suppliersLine n bs) (afterSuppliers f p)
+
+abbrev afterRow : List ℕ → Reader Truck
+afterRow f n bs = onward (line productsLine n bs) (afterProducts f)
+
+-- a reader matters only where no line was refused
+same-resumed : {A : Type 0} (file : List ℕ) (q : Progress) (R : ℕ → Reader A) (m n : ℕ) → (Going q → m ≡ n) → resumed file q (R m) ≡ resumed file q (R n)
+same-resumed file (Next at n k) R a b h = rw (h tt) refl
+same-resumed file (WrongForm n) R a b h = refl
+same-resumed file (OutOfRange n) R a b h = refl
+
+-- ---- the words of the five parts, one behind the other
+abbrev partWords : Truck → List ℕ
+partWords t =
+    (((t .fields ++ countedWords 32 (t .products)) ++ countedWords 8 (t .suppliers)) ++ dockWords (t .docks)) ++ countedWords 8 (t .plantDocks)
+
+regroup : (f p s d e l z : List ℕ) → ((((f ++ p) ++ s) ++ (d ++ e)) ++ l) ++ z ≡ f ++ (p ++ (s ++ (d ++ (e ++ (l ++ z)))))
+regroup f p s d e l z = simp append-assoc
+
+-- more zeros behind entries
+padded-more : (w z : ℕ) (l : List ℕ) → length l ≤ w → padded w l ++ replicate z 0 ≡ padded (w + z) l
+padded-more w z l h =
+    let e : (w - length l) + z ≡ w + z - length l = omega arith in
+    append-assoc l (replicate (w - length l) 0) (replicate z 0)
+    ∙ ap (λ (zeros : List ℕ). l ++ zeros) (replicate-append-replicate {A = ℕ} (w - length l) z 0 ∙ ap (λ (n : ℕ). replicate n 0) e)
+
+parts-words : (t : Truck) → length (partWords t) ≡ 143 → length (t .plantDocks) ≤ 8 → padded 160 (partWords t) ≡ truckWords t
+unfolding truckWords
+parts-words t wide few = rw (wide, regroup, padded-more 8 17 (t .plantDocks) few) refl
+
+-- ---- the whole truck
+module _ {file : List ℕ} {p q₁ q₂ q₃ q₄ q₅ : Progress} {w₁ w₂ w₃ w₄ w₅ : List ℕ}
+    (row : ReadInto file (line truckLine) (λ ns. ns) p q₁ w₁)
+    (products : ReadEntries file (line productsLine) (countedWords 32) q₁ q₂ w₂)
+    (suppliers : ReadEntries file (line suppliersLine) (countedWords 8) q₂ q₃ w₃)
+    (count : ℕ) (counted : count ≡ entriesOf q₃)
+    (docks : ReadInto file (times count (line docksLine)) dockWords q₃ q₄ w₄)
+    (plantDocks : ReadEntries file (line plantDocksLine) (countedWords 8) q₄ q₅ w₅) where
+  abbrev truck : Truck
+  truck = truckOf (row .value) (products .into .value) (suppliers .into .value) (docks .value) (plantDocks .into .value)
+
+  -- line by line, from the last to the first
+  says : reached file truck q₅ ≡ resumed file p truckLines
+  unfolding truckLines
+  says =
+      let f = row .value in
+      let ps = products .into .value in
+      let ss = suppliers .into .value in
+      let ds = docks .value in
+      let ls = plantDocks .into .value in
+      let each = docks .says ∙ same-resumed file q₃ (λ n. times n (line docksLine)) count (length ss) (λ g. counted ∙ suppliers .count g) in
+      sym (give-reached file ls q₅ (truckOf f ps ss ds))
+      ∙ sym (then-reached file ds ls q₄ q₅ (λ d. line plantDocksLine) (λ d l n bs. found (truckOf f ps ss d l) n bs) (plantDocks .into .says))
+      ∙ sym (then-reached file ss ds q₃ q₄ (λ s. times (length s) (line docksLine)) (afterDocks f ps) each)
+      ∙ sym (then-reached file ps ss q₂ q₃ (λ p. line suppliersLine) (afterSuppliers f) (suppliers .into .says))
+      ∙ sym (then-reached file f ps q₁ q₂ (λ f. line productsLine) afterProducts (products .into .says))
+      ∙ ap (λ (x : Outcome (List ℕ)). onward x afterRow) (row .says)
+      ∙ sym (first-reached file p (line truckLine) afterRow)
+
+  pub truck-read : {out : List ℕ} → length w₅ ≡ 9 → Front 160 143 ((((([] ++ w₁) ++ w₂) ++ w₃) ++ w₄) ++ w₅) out
+      → ReadInto file truckLines truckWords p q₅ out
+  truck-read nine front = record {
+    value = truck;
+    says = says;
+    holds = λ g₅.
+        let g₄ = no-refusal (plantDocks .into) g₅ in
+        let g₃ = no-refusal docks g₄ in
+        let g₂ = no-refusal (suppliers .into) g₃ in
+        let g₁ = no-refusal (products .into) g₂ in
+        let filled = rw (row .holds g₁, products .into .holds g₂, suppliers .into .holds g₃, docks .holds g₄, plantDocks .into .holds g₅) at front in
+        filled .stands ∙ parts-words truck (filled .wide) (few-counted 8 plantDocks nine g₅);
+    sound = plantDocks .into .sound;
+  }

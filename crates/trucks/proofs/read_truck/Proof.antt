@@ -1,0 +1,183 @@
+-- `trucks::read_truck` meets its contract: the five parts come back one behind the other.
+use mathlib.Core.Path.{_≡_, refl, sym, ap, _∙_}
+use mathlib.Core.List.{List}
+use Prim.Native.Nat.{ℕ, _+_, _≤_}
+use native.Mathlib.Omega.{arith}
+use borrow.Author.Needs.{needs}
+use lib.ListN.{length, take, drop, replicate}
+use Rattle.trucks.proofs.Repeat.{Front, front-clear, front-length, front-lent, front-back}
+use Rattle.trucks.proofs.Entries.{entries-counted}
+use Rattle.trucks.proofs.Truck.{truck-read}
+use Rattle.trucks.proofs.read_truck.Statement.{statement}
+use Rattle.trucks.proofs.read_truck.Tie as tie
+
+-- words that fill the part up to a place
+abbrev Upto : ℕ → Type 0
+Upto at = (ws : List ℕ) × (out : List ℕ) × Front 160 at ws out
+
+-- behind them a run was lent and came back
+abbrev behind : {at : ℕ} (u : Upto at) (k : ℕ) (run : List ℕ) → at + k ≤ 160 → length run ≡ length (take k (drop at (u .1))) → Upto (at + k)
+behind u k run room kept = (_, _, front-back (u .2) k run room kept)
+
+abbrev after-clear : tie.After-clear → Upto 0
+after-clear c = (_, _, front-clear 160 (c .clear .last .0) (c .clear .ensures ∙ ap (λ (n : ℕ). replicate n 0) (c .before .before .before .before .pre .1)))
+
+abbrev after-row : tie.After-read-truck-row → Upto 20
+after-row c = behind (after-clear (c .before .before .before .before)) 20 (c .read-truck-row .last .1 .1 .0) (omega arith) (c .read-truck-row .kept .1 .1 .0)
+
+abbrev after-products : tie.After-counted-line → Upto 53
+after-products c =
+    behind (after-row (c .before .before .before .before .before)) 33 (c .counted-line .last .1 .1 .1 .0) (omega arith) (c .counted-line .kept .1 .1 .1 .0)
+
+abbrev after-suppliers : tie.After-counted-line2 → Upto 62
+after-suppliers c =
+    behind (after-products (c .before .before .before .before .before)) 9 (c .counted-line2 .last .1 .1 .1 .0) (omega arith) (c .counted-line2 .kept .1 .1 .1 .0)
+
+abbrev after-docks : tie.After-read-docks → Upto 134
+after-docks c =
+    behind (after-suppliers (c .before .before .before .before .before)) 72 (c .read-docks .last .1 .1 .1 .0) (omega arith) (c .read-docks .kept .1 .1 .1 .0)
+
+abbrev after-plant-docks : tie.After-counted-line3 → Upto 143
+after-plant-docks c =
+    behind (after-docks (c .before .before .before .before .before)) 9 (c .counted-line3 .last .1 .1 .1 .0) (omega arith) (c .counted-line3 .kept .1 .1 .1 .0)
+
+clear-requires : tie.Need-clear-requires
+clear-requires c κs = search needs
+
+sub-read-truck-row : tie.Need-sub-read-truck-row
+sub-read-truck-row c = search needs
+
+part-read-truck-row-start : tie.Need-part-read-truck-row-start
+part-read-truck-row-start c = search needs
+
+part-read-truck-row-end : tie.Need-part-read-truck-row-end
+part-read-truck-row-end c = search needs
+
+read-truck-row-requires : tie.Need-read-truck-row-requires
+read-truck-row-requires c κs = search needs
+
+slice-aggregate-counted-line : tie.Need-slice-aggregate-counted-line
+slice-aggregate-counted-line c = search needs
+
+sub-counted-line : tie.Need-sub-counted-line
+sub-counted-line c = search needs
+
+part-counted-line-start : tie.Need-part-counted-line-start
+part-counted-line-start c = search needs
+
+part-counted-line-end : tie.Need-part-counted-line-end
+part-counted-line-end c = search needs
+
+counted-line-requires : tie.Need-counted-line-requires
+counted-line-requires c κs = search needs
+
+slice-aggregate-counted-line-2 : tie.Need-slice-aggregate-counted-line-2
+slice-aggregate-counted-line-2 c = search needs
+
+sub-counted-line-2 : tie.Need-sub-counted-line-2
+sub-counted-line-2 c = search needs
+
+part-counted-line-start-2 : tie.Need-part-counted-line-start-2
+part-counted-line-start-2 c = search needs
+
+part-counted-line-end-2 : tie.Need-part-counted-line-end-2
+part-counted-line-end-2 c = search needs
+
+counted-line-requires-2 : tie.Need-counted-line-requires-2
+counted-line-requires-2 c κs =
+    let products = c .before .before .before .before in
+    let lent = front-lent (after-products products .2) 9 (omega arith) in
+    (products .counted-line .ensures "products=" refl .into .sound, omega arith, omega arith)
+
+entries-requires : tie.Need-entries-requires
+entries-requires c κs = search needs
+
+sub-read-docks : tie.Need-sub-read-docks
+sub-read-docks c = search needs
+
+part-read-docks-start : tie.Need-part-read-docks-start
+part-read-docks-start c = search needs
+
+part-read-docks-end : tie.Need-part-read-docks-end
+part-read-docks-end c = search needs
+
+read-docks-requires : tie.Need-read-docks-requires
+read-docks-requires c κs =
+    let suppliers = c .before .before .before .before in
+    let nine = front-lent (after-products (suppliers .before .before .before .before .before) .2) 9 (omega arith) in
+    let read = rw nine at (suppliers .counted-line2 .ensures "suppliers=" refl) in
+    let few = entries-counted 8 read (suppliers .counted-line2 .kept .1 .1 .1 .0 ∙ nine) in
+    (read .into .sound, omega (arith, c .before .entries .ensures), front-lent (after-suppliers suppliers .2) 72 (omega arith))
+
+slice-aggregate-counted-line-3 : tie.Need-slice-aggregate-counted-line-3
+slice-aggregate-counted-line-3 c = search needs
+
+sub-counted-line-3 : tie.Need-sub-counted-line-3
+sub-counted-line-3 c = search needs
+
+part-counted-line-start-3 : tie.Need-part-counted-line-start-3
+part-counted-line-start-3 c = search needs
+
+part-counted-line-end-3 : tie.Need-part-counted-line-end-3
+part-counted-line-end-3 c = search needs
+
+counted-line-requires-3 : tie.Need-counted-line-requires-3
+counted-line-requires-3 c κs =
+    let docks = c .before .before .before .before in
+    let lent = front-lent (after-docks docks .2) 9 (omega arith) in
+    (docks .read-docks .ensures .sound, omega arith, omega arith)
+
+same-length : tie.Need-same-length
+same-length c =
+    let docks = c .before .before .before .before .before .before .before in
+    let products = docks .before .before .before .before .before .before .before .before .before .before in
+    let start = products .before .before .before .before .before .before .before .before .before .before .before .before .before in
+    front-length (after-plant-docks (c .before .before) .2) (omega arith) ∙ sym (start .pre .1)
+
+returns : tie.Need-returns
+returns c =
+    let plantDocks = c .before .before in
+    let docks = plantDocks .before .before .before .before .before in
+    let suppliers = docks .before .before .before .before .before in
+    let products = suppliers .before .before .before .before .before in
+    let row = products .before .before .before .before .before in
+    let entries = docks .before .before .entries in
+    let nine = front-lent (after-docks docks .2) 9 (omega arith) in
+    truck-read (row .read-truck-row .ensures)
+    (rw (front-lent (after-row row .2) 33 (omega arith)) at (products .counted-line .ensures "products=" refl))
+    (rw (front-lent (after-products products .2) 9 (omega arith)) at (suppliers .counted-line2 .ensures "suppliers=" refl))
+    (entries .result) (entries .ensures) (docks .read-docks .ensures)
+    (rw nine at (plantDocks .counted-line3 .ensures "plantdocks=" refl)) (plantDocks .counted-line3 .kept .1 .1 .1 .0 ∙ nine)
+    (after-plant-docks plantDocks .2)
+
+pub read-truck-spec : {M : Type 1} → statement M
+read-truck-spec =
+    tie.close
+    (tie.spec
+    clear-requires
+    sub-read-truck-row
+    part-read-truck-row-start
+    part-read-truck-row-end
+    read-truck-row-requires
+    slice-aggregate-counted-line
+    sub-counted-line
+    part-counted-line-start
+    part-counted-line-end
+    counted-line-requires
+    slice-aggregate-counted-line-2
+    sub-counted-line-2
+    part-counted-line-start-2
+    part-counted-line-end-2
+    counted-line-requires-2
+    entries-requires
+    sub-read-docks
+    part-read-docks-start
+    part-read-docks-end
+    read-docks-requires
+    slice-aggregate-counted-line-3
+    sub-counted-line-3
+    part-counted-line-start-3
+    part-counted-line-end-3
+    counted-line-requires-3
+    same-length
+    returns)

@@ -1,0 +1,92 @@
+// A truck's lines, read into the truck's own 160 words.
+ghost use mathlib.Core.Path.{_≡_};
+ghost use Prim.Native.Nat.{ℕ, _+_, _*_, _≤_, _<_};
+ghost use lib.ListN.{length};
+ghost use Rattle.meaning.specs.Reader.{line, times};
+ghost use Rattle.meaning.specs.Files.{truckLine, docksLine, truckLines};
+ghost use Rattle.meaning.specs.Table.{truckWords};
+ghost use Rattle.lines.specs.Progress.{Sound, ReadInto};
+ghost use Rattle.trucks.specs.Rows.{rows, dockWords};
+use lines::Progress;
+use lines::counted_line;
+use lines::entries;
+use lines::identifiers_line;
+use lines::row_line;
+use table::clear;
+
+// A line of docks for each of the suppliers: their counts, then eight words for each.
+pub fn read_docks(file: &[u8], p: Progress, suppliers: usize, part: &mut [u32]) -> Progress
+    requires { ⌜ Sound (now file) p × (suppliers ≤ 8) × (length (now part) ≡ 72) ⌝ }
+    ensures { λ r. ⌜ ReadInto (now (file .entry)) (times suppliers (line docksLine)) dockWords p r (now (part .exit)) ⌝ }
+{
+    clear(part);
+    let mut q = p;
+    let mut k: usize = 0;
+    while k < suppliers {
+        let first = 8 + 8 * k;
+        q = identifiers_line(file, q, b"docks=", &mut part[first..first + 8]);
+        part[k] = entries(q) as u32;
+        k += 1;
+    }
+    q
+}
+
+// The truck's own line.
+pub fn read_truck_row(file: &[u8], p: Progress, part: &mut [u32]) -> Progress
+    requires { ⌜ Sound (now file) p × (length (now part) ≡ 20) ⌝ }
+    ensures { λ r. ⌜ ReadInto (now (file .entry)) (line truckLine) (λ ns. ns) p r (now (part .exit)) ⌝ }
+{
+    let lows: [u32; 20] = [1, 1, 1, 1, 1, 0, 0, 0, 1, 0, 0, 1, 0, 0, 0, 1, 0, 0, 1, 1];
+    let highs: [u32; 20] = [
+        20000, // TL
+        20000, // TW
+        20000, // TH
+        50000, // TMm
+        65535, // plant
+        399, // TDA
+        50000, // TMM
+        1, // TF
+        100000, // TEM
+        1000000, // TC
+        50000, // CM
+        20000, // CJfm
+        20000, // CJfc
+        20000, // CJfh
+        50000, // EM
+        20000, // EJhr
+        20000, // EJcr
+        20000, // EJeh
+        50000, // EMmr
+        50000, // EMmm
+    ];
+    row_line(file, p, b"truck=", &lows, &highs, part)
+}
+
+// All lines of a truck, into its 160 words.
+pub fn read_truck(file: &[u8], p: Progress, part: &mut [u32]) -> Progress
+    requires { ⌜ Sound (now file) p × (length (now part) ≡ 160) ⌝ }
+    ensures { λ r. ⌜ ReadInto (now (file .entry)) truckLines truckWords p r (now (part .exit)) ⌝ }
+{
+    clear(part);
+    let row = read_truck_row(file, p, &mut part[0..20]);
+    let products = counted_line(file, row, b"products=", &mut part[20..53]);
+    let suppliers = counted_line(file, products, b"suppliers=", &mut part[53..62]);
+    let docks = read_docks(file, suppliers, entries(suppliers), &mut part[62..134]);
+    counted_line(file, docks, b"plantdocks=", &mut part[134..143])
+}
+
+// The trucks one after another. Each is lent its own part of the table.
+pub fn read_trucks(file: &[u8], p: Progress, count: usize, part: &mut [u32]) -> Progress
+    requires { ⌜ Sound (now file) p × (160 * count ≤ length (now part)) ⌝ }
+    ensures { λ r. ⌜ ReadInto (now (file .entry)) (times count truckLines) (rows (length (now (part .entry))) truckWords) p r (now (part .exit)) ⌝ }
+{
+    clear(part);
+    let mut q = p;
+    let mut k: usize = 0;
+    while k < count {
+        let first = 160 * k;
+        q = read_truck(file, q, &mut part[first..first + 160]);
+        k += 1;
+    }
+    q
+}
