@@ -1,0 +1,5 @@
+pub mod Items
+pub mod Blocks
+pub mod HeadLines
+pub mod Parts
+pub mod WholeFile

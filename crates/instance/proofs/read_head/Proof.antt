@@ -1,0 +1,149 @@
+-- `read_head`: each line goes on from the answer of the line before, and the five numbers are stored over zeros.
+use mathlib.Core.Path.{_≡_, refl, ap, _∙_}
+use Prim.Native.Nat.{ℕ}
+use native.Mathlib.Omega.{arith}
+use lib.ListN.{length, replicate, length-set}
+use borrow.Author.Needs.{needs}
+use Rattle.instance.proofs.HeadLines.{headNumbers, head-says, head-words}
+use Rattle.instance.proofs.read_head.Statement.{statement}
+use Rattle.instance.proofs.read_head.Tie as tie
+
+-- ---- the way back from a place to the calls before it
+abbrev start : tie.After-clear → tie.Start
+start c = c .before .before .before .before
+
+abbrev cleared : tie.After-number-line3 → tie.After-clear
+cleared c = c .before .before .before .before .before .before .before .before
+
+abbrev third : tie.After-number-line4 → tie.After-number-line3
+third c = c .before .before .before
+
+abbrev fourth : tie.After-number-line5 → tie.After-number-line4
+fourth c = c .before .before .before
+
+-- the words are still 16
+long : (c : tie.After-clear) → length (c .clear .last .0) ≡ 16
+long c = c .clear .kept .0 ∙ start c .pre .2
+
+clear-requires : tie.Need-clear-requires
+clear-requires c κs = search needs
+
+slice-aggregate-number-line : tie.Need-slice-aggregate-number-line
+slice-aggregate-number-line c = search needs
+
+number-line-requires : tie.Need-number-line-requires
+number-line-requires c κs = search needs
+
+slice-aggregate-number-line-2 : tie.Need-slice-aggregate-number-line-2
+slice-aggregate-number-line-2 c = search needs
+
+number-line-requires-2 : tie.Need-number-line-requires-2
+number-line-requires-2 c κs = search needs
+
+slice-aggregate-number-line-3 : tie.Need-slice-aggregate-number-line-3
+slice-aggregate-number-line-3 c = search needs
+
+number-line-requires-3 : tie.Need-number-line-requires-3
+number-line-requires-3 c κs = search needs
+
+slice-aggregate-number-line-4 : tie.Need-slice-aggregate-number-line-4
+slice-aggregate-number-line-4 c = search needs
+
+cast-number-line : tie.Need-cast-number-line
+cast-number-line c = omega (arith, start (cleared (c .before .before)) .pre .0 .words)
+
+number-line-requires-4 : tie.Need-number-line-requires-4
+number-line-requires-4 c κs = (c .before .before .number-line3 .ensures .1 .0, omega (arith, start (cleared (c .before .before)) .pre .0 .words))
+
+slice-aggregate-number-line-5 : tie.Need-slice-aggregate-number-line-5
+slice-aggregate-number-line-5 c = search needs
+
+cast-number-line-2 : tie.Need-cast-number-line-2
+cast-number-line-2 c = omega (arith, start (cleared (third (c .before .before))) .pre .0 .words)
+
+number-line-requires-5 : tie.Need-number-line-requires-5
+number-line-requires-5 c κs = (c .before .before .number-line4 .ensures .1 .0, omega (arith, start (cleared (third (c .before .before))) .pre .0 .words))
+
+slice-write-part : tie.Need-slice-write-part
+slice-write-part c = omega (arith, long (cleared (third (fourth c))))
+
+slice-write-part-2 : tie.Need-slice-write-part-2
+slice-write-part-2 c = simp length-set (omega (arith, long (cleared (third (fourth c)))))
+
+slice-write-part-3 : tie.Need-slice-write-part-3
+slice-write-part-3 c = simp length-set (omega (arith, long (cleared (third (fourth c)))))
+
+slice-write-part-4 : tie.Need-slice-write-part-4
+slice-write-part-4 c = simp length-set (omega (arith, long (cleared (third (fourth c)))))
+
+slice-write-part-5 : tie.Need-slice-write-part-5
+slice-write-part-5 c = simp length-set (omega (arith, long (cleared (third (fourth c)))))
+
+cast-t39 : tie.Need-cast-t39
+cast-t39 c = search needs
+
+cast-t40 : tie.Need-cast-t40
+cast-t40 c = search needs
+
+same-length : tie.Need-same-length
+same-length c = simp length-set (cleared (third (fourth (c .before .before))) .clear .kept .0)
+
+returns : tie.Need-returns
+returns c =
+    let fifthLine = c .before .before in
+    let fourthLine = fourth fifthLine in
+    let thirdLine = third fourthLine in
+    let secondLine = thirdLine .before .before in
+    let firstLine = secondLine .before .before in
+    let zeros = cleared thirdLine in
+    let transport = firstLine .number-line .result in
+    let inventory = secondLine .number-line2 .result in
+    let extra = thirdLine .number-line3 .result in
+    let items = fourthLine .number-line4 .result in
+    let trucks = fifthLine .number-line5 .result in
+    record {
+      into =
+          record {
+            value = headNumbers (transport .value) (inventory .value) (extra .value) (items .value) (trucks .value);
+            says =
+                head-says (start zeros .args .limits) (start zeros .args .file .now) (start zeros .args .p) transport inventory extra items trucks
+                (firstLine .number-line .ensures .0 "transport=" refl)
+                (secondLine .number-line2 .ensures .0 "inventory=" refl)
+                (thirdLine .number-line3 .ensures .0 "extra=" refl)
+                (fourthLine .number-line4 .ensures .0 "items=" refl)
+                (fifthLine .number-line5 .ensures .0 "trucks=" refl);
+            holds = λ g. head-words (zeros .clear .last .0) _ _ _ _ _ (zeros .clear .ensures ∙ ap (λ (k : ℕ). replicate k 0) (start zeros .pre .2));
+            sound = fifthLine .number-line5 .ensures .1 .0;
+          };
+      items = λ g. refl;
+      trucks = λ g. refl;
+      itemsWithin = fourthLine .number-line4 .ensures .1 .1;
+      trucksWithin = fifthLine .number-line5 .ensures .1 .1;
+    }
+
+pub read-head-spec : {M : Type 1} → statement M
+read-head-spec =
+    tie.close
+    (tie.spec
+    clear-requires
+    slice-aggregate-number-line
+    number-line-requires
+    slice-aggregate-number-line-2
+    number-line-requires-2
+    slice-aggregate-number-line-3
+    number-line-requires-3
+    slice-aggregate-number-line-4
+    cast-number-line
+    number-line-requires-4
+    slice-aggregate-number-line-5
+    cast-number-line-2
+    number-line-requires-5
+    slice-write-part
+    slice-write-part-2
+    slice-write-part-3
+    slice-write-part-4
+    slice-write-part-5
+    cast-t39
+    cast-t40
+    same-length
+    returns)

@@ -1,0 +1,49 @@
+-- `read_item`: the line fills the 16 words, so that the test on the words is the form's.
+use mathlib.Core.Path.{_≡_, refl, sym, _∙_}
+use lib.ListN.{length}
+use borrow.Author.Needs.{needs}
+use Rattle.meaning.specs.Files.{itemLine}
+use Rattle.lines.proofs.FullLines.{full-read}
+use Rattle.instance.proofs.Items.{item-refuses-largest}
+use Rattle.instance.proofs.read_item.Statement.{statement}
+use Rattle.instance.proofs.read_item.Tie as tie
+
+slice-aggregate-stored-line : tie.Need-slice-aggregate-stored-line
+slice-aggregate-stored-line c = search needs
+
+stored-line-requires : tie.Need-stored-line-requires
+stored-line-requires c κs = search needs
+
+item-in-range-requires : tie.Need-item-in-range-requires
+item-in-range-requires c κs = search needs
+
+judged-requires : tie.Need-judged-requires
+judged-requires c κs = search needs
+
+same-length : tie.Need-same-length
+same-length c = search needs
+
+returns : tie.Need-returns
+returns c =
+    let test = c .before in
+    let line = test .before .before .before .before in
+    let start = line .before .before .before .before .before in
+    let out₀ = start .args .part .now in
+    let out = line .stored-line .last .1 .1 .1 .1 .0 in
+    let stored = line .stored-line .result in
+    let promised = line .stored-line .ensures in
+    let full : length out ≡ 16 = line .stored-line .kept .1 .1 .1 .1 .0 ∙ start .pre .1 in
+    rw (c .judged .ensures)
+    (full-read (start .args .file .now) out₀ out itemLine (start .args .p) stored (test .item-in-range .result)
+    (promised .0 itemLine refl refl (sym (start .pre .1)) item-refuses-largest) (promised .1 .0) (rw full (promised .1 .1)) (test .item-in-range .ensures))
+
+pub read-item-spec : {M : Type 1} → statement M
+read-item-spec =
+    tie.close
+    (tie.spec
+    slice-aggregate-stored-line
+    stored-line-requires
+    item-in-range-requires
+    judged-requires
+    same-length
+    returns)

@@ -1,0 +1,137 @@
+// The instance file, read into the table: the head's numbers, the items, and the trucks behind them.
+ghost use mathlib.Core.Path.{_≡_};
+ghost use Prim.Native.Nat.{ℕ, _+_, _-_, _*_, _≤_, _<_};
+ghost use lib.ListN.{length};
+ghost use Rattle.meaning.specs.Limits.{stacksAt};
+ghost use Rattle.meaning.specs.Reader.{line, times};
+ghost use Rattle.meaning.specs.Files.{allWithin, itemRanges, itemLine};
+ghost use Rattle.table.specs.Filled.{Bounded};
+ghost use Rattle.lines.specs.declared.Progress.the-variants.{Next};
+ghost use Rattle.lines.specs.Progress.{Sound, ReadInto};
+ghost use Rattle.trucks.specs.Rows.{rows};
+ghost use Rattle.instance.specs.Words.{HeadRead, instanceFile, instanceWords};
+use lines::Progress;
+use lines::at_end;
+use lines::in_ranges;
+use lines::judged;
+use lines::number_line;
+use lines::stored_line;
+use meaning::Limits;
+use table::clear;
+use table::trucks_at;
+use trucks::read_trucks;
+
+// ---- items
+
+// One less, and 0 for 0: a nesting height is below the height.
+fn one_below(height: u32) -> u32
+    ensures { λ r. ⌜ r ≡ height - 1 ⌝ }
+{
+    if height == 0 { 0 } else { height - 1 }
+}
+
+// Whether an item's fields are in range. Width, nesting height and latest day depend on other fields.
+pub fn item_in_range(fields: &[u32]) -> bool
+    requires { ⌜ length (now fields) ≡ 16 ⌝ }
+    ensures { λ r. ⌜ r ≡ allWithin (itemRanges (now (fields .entry))) (now (fields .entry)) ⌝ }
+{
+    let length = fields[0];
+    let nesting = one_below(fields[2]);
+    let earliest = fields[9];
+    let lows: [u32; 16] = [1, 1, 1, 0, 1, 1, 1, 1, 0, 0, earliest, 1, 1, 1, 1, 0];
+    let highs: [u32; 16] = [
+        20000, // IL
+        length, // IW, up to IL
+        20000, // IH
+        nesting, // nesting height, below IH
+        50000, // IM
+        65535, // stackability code
+        64, // maximal stackability
+        65535, // product
+        2, // forced orientation
+        399, // IDE
+        399, // IDL
+        65535, // plant
+        65535, // plant dock
+        65535, // supplier
+        65535, // supplier dock
+        100000, // IC
+    ];
+    in_ranges(fields, &lows, &highs)
+}
+
+// An item's line.
+pub fn read_item(file: &[u8], p: Progress, part: &mut [u32]) -> Progress
+    requires { ⌜ Sound (now file) p × (length (now part) ≡ 16) ⌝ }
+    ensures { λ r. ⌜ ReadInto (now (file .entry)) (line itemLine) (λ ns. ns) p r (now (part .exit)) ⌝ }
+{
+    let stored = stored_line(file, p, b"item=", 16, part);
+    let in_range = item_in_range(part);
+    judged(file, stored, in_range)
+}
+
+// The items one after another.
+pub fn read_items(file: &[u8], p: Progress, count: usize, part: &mut [u32]) -> Progress
+    requires { ⌜ Sound (now file) p × (16 * count ≤ length (now part)) ⌝ }
+    ensures { λ r. ⌜ ReadInto (now (file .entry)) (times count (line itemLine)) (rows (length (now (part .entry))) (λ ns. ns)) p r (now (part .exit)) ⌝ }
+{
+    clear(part);
+    let mut q = p;
+    let mut k: usize = 0;
+    while k < count {
+        let first = 16 * k;
+        q = read_item(file, q, &mut part[first..first + 16]);
+        k += 1;
+    }
+    q
+}
+
+// ---- the whole file
+
+// How far the head is read, and how many items and trucks it announces; 0 of what a refusal left unread.
+pub struct Head {
+    pub progress: Progress,
+    pub items: usize,
+    pub trucks: usize,
+}
+
+// The five lines that the file begins with.
+pub fn read_head(limits: Limits, file: &[u8], p: Progress, part: &mut [u32]) -> Head
+    requires { ⌜ Bounded limits × Sound (now file) p × (length (now part) ≡ 16) ⌝ }
+    ensures { λ r. ⌜ HeadRead limits (now (file .entry)) p r (now (part .exit)) ⌝ }
+{
+    clear(part);
+    let transport = number_line(file, p, b"transport=", 0, 1000);
+    let p = transport.progress;
+    let inventory = number_line(file, p, b"inventory=", 0, 1000);
+    let p = inventory.progress;
+    let extra = number_line(file, p, b"extra=", 0, 1000);
+    let p = extra.progress;
+    let items = number_line(file, p, b"items=", 1, limits.items as u32);
+    let p = items.progress;
+    let trucks = number_line(file, p, b"trucks=", 1, limits.trucks as u32);
+    part[0] = transport.value;
+    part[1] = inventory.value;
+    part[2] = extra.value;
+    part[3] = items.value;
+    part[4] = trucks.value;
+    let progress = trucks.progress;
+    Head {
+        progress: progress,
+        items: items.value as usize,
+        trucks: trucks.value as usize,
+    }
+}
+
+// The instance file, into the words before the stacks.
+pub fn read_instance(limits: Limits, file: &[u8], part: &mut [u32]) -> Progress
+    requires { ⌜ Bounded limits × (length (now part) ≡ stacksAt limits) ⌝ }
+    ensures { λ r. ⌜ ReadInto (now (file .entry)) (instanceFile limits) (instanceWords limits) (Next 0 0 0) r (now (part .exit)) ⌝ }
+{
+    let trucks_from = trucks_at(limits);
+    let head = read_head(limits, file, Progress::Next(0, 0, 0), &mut part[0..16]);
+    let progress = head.progress;
+    let items = read_items(file, progress, head.items, &mut part[16..trucks_from]);
+    let trucks = read_trucks(file, items, head.trucks, &mut part[trucks_from..]);
+    at_end(file, trucks)
+}
