@@ -1,0 +1,81 @@
+-- The two lines of a stack, from what is stored and tested to what is read.
+use mathlib.Core.Path.{_≡_, refl, sym, ap, _∙_}
+use mathlib.Core.Bool.{Bool, true, false, not, _&&_}
+use mathlib.Core.List.{List}
+use Prim.Native.Nat.{ℕ, _+_, _-_, _*_, _≤_, _<_}
+use native.Mathlib.Omega.{arith}
+use borrow.Author.Tests.{leb-true}
+use lib.Dec.{leb}
+use lib.ListN.{length, getD, take, drop}
+use lib.Seq.{take-at, length-take-le}
+use borrow.Rule.Slice.PartMut.{putMid}
+use Rattle.meaning.specs.Lists.{all, between, listed, padded}
+use Rattle.meaning.specs.Reader.{Reader}
+use Rattle.meaning.specs.Files.{allWithin, stackRanges, stackLine, loadLine}
+use Rattle.meaning.specs.Model.{stackNumber}
+use Rattle.meaning.proofs.Tests.{and-reads}
+use Rattle.lines.specs.declared.Progress.{Progress}
+use Rattle.lines.specs.declared.Progress.the-variants.{Next, WrongForm, OutOfRange}
+use Rattle.lines.specs.Progress.{entriesOf, Going, judgedAs, RefusesLargest, ReadEntries}
+use Rattle.lines.proofs.Largest.{refuses-between, refuses-ranges}
+use Rattle.plan.specs.Words.{spliced, rowNumbers}
+use Rattle.plan.proofs.Splices.{put-spliced, spliced-there, spliced-first}
+use Rattle.plan.proofs.Rows.{rows-kept}
+
+-- ---- the largest word
+pub stack-refuses-largest : (trucks : ℕ) (taken : List ℕ) → trucks < 4294967295 → RefusesLargest (stackLine trucks taken)
+stack-refuses-largest trucks taken h ns l e =
+    refuses-ranges (stackRanges trucks) ns (omega arith) l (and-reads (allWithin (stackRanges trucks) ns) (not (listed (stackNumber ns) taken)) .0 e .0)
+
+pub load-refuses-largest : (most items held : ℕ) → items < 4294967295 → RefusesLargest (loadLine most items held)
+load-refuses-largest most items held h ns l e =
+    refuses-between 1 items ns h (and-reads (all (between 1 items) ns) (leb (held + length ns) most) .0 e .0)
+
+-- ---- a stack's row
+-- the test as it is made on the words, where the row was lent and came back
+pub row-fits : (part row : List ℕ) (trucks k size : ℕ) → 8 * k ≤ length part → length row ≡ size → 0 < size →
+    let words = putMid (8 * k) size part row in
+    (allWithin (stackRanges trucks) (take size (drop (8 * k) words)) && not (listed (getD words (8 * k) 0) (rowNumbers k words)))
+    ≡ stackLine trucks (rowNumbers k part) .fits row
+row-fits part row trucks k size h l z =
+    rw (
+      put-spliced (8 * k) part row size l,
+      spliced-there (8 * k) part row h size l,
+      spliced-first (8 * k) part row h (omega arith),
+      rows-kept k (8 * k) part row (omega arith) h,
+    ) refl
+
+-- ---- a load
+-- the test as it is made on so many words, together with those held
+pub load-fits : (load : List ℕ) (most items held count : ℕ) → count ≤ length load
+    → (all (between 1 items) (take (count - 0) load) && leb (held + count) most) ≡ loadLine most items held .fits (take (count - 0) load)
+load-fits load most items held count h =
+    let l : length (take (count - 0) load) ≡ count = length-take-le (count - 0) load (omega arith) ∙ omega arith in
+    rw l refl
+
+-- after the test there are as many entries as before or none
+pub kept-fewer : (q : Progress) (ok : Bool) → entriesOf (judgedAs q ok) ≤ entriesOf q
+kept-fewer (Next at n k) true = omega arith
+kept-fewer (Next at n k) false = omega arith
+kept-fewer (WrongForm n) ok = omega arith
+kept-fewer (OutOfRange n) ok = omega arith
+
+-- so they have room, which is part of the test
+pub kept-room : (q : Progress) (ok in-range : Bool) (held count most : ℕ) → count ≡ entriesOf q → ok ≡ (in-range && leb (held + count) most) → held ≤ most
+    → held + entriesOf (judgedAs q ok) ≤ most
+kept-room (Next at n k) true in-range held count most c e h =
+    omega (arith, leb-true (held + count) most (and-reads in-range (leb (held + count) most) .0 (sym e) .1))
+kept-room (Next at n k) false in-range held count most c e h = omega arith
+kept-room (WrongForm n) ok in-range held count most c e h = omega arith
+kept-room (OutOfRange n) ok in-range held count most c e h = omega arith
+
+-- so many of the words that were read, in the place of others
+pub load-within : (file loads load : List ℕ) (reader : Reader (List ℕ)) (n held kept : ℕ) (p r : Progress) → kept ≡ entriesOf r
+    → ReadEntries file reader (padded n) p r load → ReadEntries file reader (λ l. spliced held l loads) p r (spliced held (take kept load) loads)
+load-within file loads load reader n held kept p r e i =
+    let value = i .into .value in
+    let stands : Going r → take kept load ≡ value = λ g. ap (take kept) (i .into .holds g) ∙ take-at value _ kept (sym (e ∙ i .count g)) in
+    record {
+      into = record { value = value; says = i .into .says; holds = λ g. ap (λ (l : List ℕ). spliced held l loads) (stands g); sound = i .into .sound };
+      count = i .count;
+    }

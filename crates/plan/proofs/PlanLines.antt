@@ -1,0 +1,40 @@
+-- The plan file as a whole: the number of its stacks, the stacks, and the end of the file.
+use mathlib.Core.Path.{_≡_, sym, ap, _∙_}
+use mathlib.Core.List.{List, []}
+use Prim.Native.Nat.{ℕ}
+use lib.ListN.{length}
+use Rattle.meaning.specs.declared.Limits.{Limits}
+use Rattle.meaning.specs.Reader.{Outcome, onward, atEnd}
+use Rattle.meaning.specs.Files.{stackLines, numberLine, _to_}
+use Rattle.lines.specs.declared.Progress.{Progress}
+use Rattle.lines.specs.declared.Progress.the-variants.{Next}
+use Rattle.lines.specs.Progress.{reached, resumed, Going, endedAs, ReadInto}
+use Rattle.lines.proofs.Follow.{first-reached, then-reached}
+use Rattle.lines.proofs.Ended.{ended-reached, ended-sound, ended-going}
+use Rattle.plan.specs.Words.{planWords, planFile, IsPlanRead}
+use Rattle.plan.proofs.StackLines.{read-has, so-many}
+
+module _ (m : Limits) (items trucks : ℕ) (file part : List ℕ) (count : ℕ) (p q r : Progress) where
+  pub plan-read : reached file count p ≡ resumed file (Next 0 0 0) (numberLine "stacks=" (0 to m .stacks))
+      → ReadInto file (stackLines (m .loads) items trucks count [] 0) (planWords m) p q part → r ≡ endedAs (length file) q
+      → IsPlanRead m items trucks file (record { progress = r; stacks = count }) part
+  unfolding planFile
+  plan-read announced stacks ended =
+      let ss = stacks .value in
+      let onwards : Going r → Going q = λ going. ended-going file q (rw ended at going) in
+      record {
+        into =
+            record {
+              value = ss;
+              says =
+                  rw ended
+                  (ended-reached ss file q
+                  ∙ sym (then-reached file count ss p q (λ n. stackLines (m .loads) items trucks n [] 0) (λ n. atEnd) (stacks .says))
+                  ∙ ap (λ (x : Outcome ℕ). onward x (λ n i bs. onward (stackLines (m .loads) items trucks n [] 0 i bs) atEnd)) announced
+                  ∙ sym (first-reached file (Next 0 0 0) (numberLine "stacks=" (0 to m .stacks)) _));
+              holds = λ going. stacks .holds (onwards going);
+              sound = rw ended (ended-sound file q (stacks .sound));
+            };
+        stacks = λ going.
+            sym (read-has file ss (λ l. length l ≡ count) p q _ (so-many (m .loads) items trucks count [] 0) (stacks .says) (onwards going));
+      }

@@ -1,0 +1,261 @@
+-- The lines of the stacks, followed one stack after another: what is found has its form's sizes, and the state of a loop that reads them.
+use mathlib.Core.Path.{_≡_, refl, sym, ap, ap₂, subst, _∙_}
+use mathlib.Core.List.{List, [], _∷_, _++_, flatMap, append-assoc, append-nil}
+use Prim.Native.Nat.{ℕ, zero, suc, _+_, _-_, _*_, _≤_, _<_}
+use native.Mathlib.Nat.{sub-zero}
+use native.Mathlib.Omega.{arith}
+use borrow.Rule.Slice.PartMut.{midOf, putMid}
+use lib.ListN.{length, drop, set, replicate, length-append, length-replicate, length-take, length-drop}
+use Rattle.meaning.specs.declared.Limits.{Limits}
+use Rattle.meaning.specs.Reader.{Outcome, found, wrongForm, outOfRange, Reader, give, line, onward}
+use Rattle.meaning.specs.Files.{stackLine, loadLine, stackLines}
+use Rattle.meaning.specs.Model.{Stack, stackNumber}
+use Rattle.meaning.specs.Table.{loadEntries}
+use Rattle.meaning.proofs.Outcomes.{Leaves, leaves-onward, leaves-line}
+use Rattle.lines.specs.declared.Progress.{Progress}
+use Rattle.lines.specs.declared.Progress.the-variants.{Next, WrongForm, OutOfRange}
+use Rattle.lines.specs.Progress.{reached, resumed, Going, entriesOf, Sound, ReadInto, ReadEntries}
+use Rattle.lines.proofs.Follow.{first-reached, then-reached, give-reached, on-reached, going-before, read-meets}
+use Rattle.plan.specs.Words.{spliced, rowNumbers, oneStack, StackRead, planWords}
+use Rattle.plan.proofs.StackWords.{takenBy, SixFields, taken-more, loads-more, Stands, stands-none, stands-taken, stands-more, stack-put}
+
+-- ---- what readers find
+module _ {A : Type 0} (file : List ℕ) (a : A) where
+  -- what a reader always leaves is so of what was read
+  pub read-has : (P : A → Type 0) (p q : Progress) (reader : Reader A) → ((n : ℕ) (bs : List ℕ) → Leaves (λ x rest. P x) (reader n bs))
+      → reached file a q ≡ resumed file p reader → Going q → P a
+  read-has P (Next at n k) (Next at′ n′ k′) reader h e g = subst (Leaves (λ x rest. P x)) (sym e) (h (suc n) (drop at file))
+  read-has P (Next at n k) (WrongForm n′) reader h e g = absurd g
+  read-has P (Next at n k) (OutOfRange n′) reader h e g = absurd g
+  read-has P (WrongForm n) q reader h e g = absurd (going-before file a (WrongForm n) q reader e g)
+  read-has P (OutOfRange n) q reader h e g = absurd (going-before file a (OutOfRange n) q reader e g)
+
+  -- after a refusal the reader does not matter
+  resumed-same : (p q : Progress) (reader reader′ : Reader A) → (Going p → reader ≡ reader′) → reached file a q ≡ resumed file p reader
+      → reached file a q ≡ resumed file p reader′
+  resumed-same (Next at n k) q reader reader′ h e = e ∙ ap (λ (r : Reader A). r (suc n) (drop at file)) (h tt)
+  resumed-same (WrongForm n) q reader reader′ h e = e
+  resumed-same (OutOfRange n) q reader reader′ h e = e
+
+-- what comes behind a reader, whatever that finds
+leaves-then : {A B : Type 0} (P : B → Type 0) (x : Outcome A) (next : A → Reader B) → ((a : A) (n : ℕ) (bs : List ℕ) → Leaves (λ b rest. P b) (next a n bs))
+    → Leaves (λ b rest. P b) (onward x next)
+unfolding onward
+leaves-then P (found a n bs) next h = h a n bs
+leaves-then P (wrongForm n) next h = tt
+leaves-then P (outOfRange n) next h = tt
+
+-- a stack of its two lines
+abbrev stackOf : List ℕ → List ℕ → Stack
+stackOf fields load = record { fields = fields; load = load }
+
+module _ (most items trucks : ℕ) where
+  -- a stack's line has six fields
+  one-six : (taken : List ℕ) (held n : ℕ) (bs : List ℕ) → Leaves (λ s rest. SixFields s) (oneStack most items trucks taken held n bs)
+  unfolding oneStack
+  one-six taken held n bs =
+      leaves-onward (λ fields rest. length fields ≡ 6) (λ s rest. SixFields s) (line (stackLine trucks taken) n bs) _
+      (leaves-line (stackLine trucks taken) _ n bs (λ l rest ns e k f. omega (arith, f .least, f .most)))
+      (λ fields n₁ bs₁ six. leaves-then SixFields (line (loadLine most items held) n₁ bs₁) _ (λ load n₂ bs₂. six))
+
+  -- as many stacks as are asked for
+  pub so-many : (count : ℕ) (taken : List ℕ) (held n : ℕ) (bs : List ℕ)
+      → Leaves (λ ss rest. length ss ≡ count) (stackLines most items trucks count taken held n bs)
+  unfolding stackLines
+  so-many zero taken held n bs = refl
+  so-many (suc count) taken held n bs =
+      leaves-then (λ (ss : List Stack). length ss ≡ suc count) (line (stackLine trucks taken) n bs) _ (λ fields n₁ bs₁.
+      leaves-then (λ (ss : List Stack). length ss ≡ suc count) (line (loadLine most items held) n₁ bs₁) _ (λ load n₂ bs₂.
+      leaves-onward (λ ss rest. length ss ≡ count) (λ ss rest. length ss ≡ suc count)
+      (stackLines most items trucks count (stackNumber fields ∷ taken) (held + length load) n₂ bs₂) _
+      (so-many count (stackNumber fields ∷ taken) (held + length load) n₂ bs₂) (λ ss n₃ bs₃ e. ap suc e)))
+
+  -- ---- one stack, from its two lines
+  stack-says : (file : List ℕ) (taken : List ℕ) (held : ℕ) (p q r : Progress) (fields load : List ℕ)
+      → reached file fields q ≡ resumed file p (line (stackLine trucks taken)) → reached file load r ≡ resumed file q (line (loadLine most items held))
+      → reached file (stackOf fields load) r ≡ resumed file p (oneStack most items trucks taken held)
+  unfolding oneStack
+  stack-says file taken held p q r fields load first second =
+      sym (give-reached file load r (stackOf fields))
+      ∙ sym (then-reached file fields load q r (λ f. line (loadLine most items held)) (λ f l. give (stackOf f l)) second)
+      ∙ ap (λ (x : Outcome (List ℕ)). onward x (λ f n bs. onward (line (loadLine most items held) n bs) (λ l. give (stackOf f l)))) first
+      ∙ sym (first-reached file p (line (stackLine trucks taken)) _)
+
+  -- ---- the stacks that are left
+  -- so many stacks behind those that were read
+  abbrev pub later : ℕ → List Stack → Reader (List Stack)
+  later count ss n bs = onward (stackLines most items trucks count (takenBy ss) (length (loadEntries ss)) n bs) (λ rest. give (ss ++ rest))
+
+  -- before the first
+  later-first : (file : List ℕ) (count : ℕ) (p : Progress) → onward (reached file [] p) (later count) ≡ resumed file p (stackLines most items trucks count [] 0)
+  unfolding onward takenBy loadEntries flatMap
+  later-first file count (Next at n k) = unchanged (stackLines most items trucks count [] 0 (suc n) (drop at file))
+    where
+      unchanged : (x : Outcome (List Stack)) → onward x (λ rest. give rest) ≡ x
+      unchanged (found ss n bs) = refl
+      unchanged (wrongForm n) = refl
+      unchanged (outOfRange n) = refl
+  later-first file count (WrongForm n) = refl
+  later-first file count (OutOfRange n) = refl
+
+  -- one of them, and then one fewer
+  later-one : (count : ℕ) (ss : List Stack) (n : ℕ) (bs : List ℕ)
+      → later (suc count) ss n bs ≡ onward (oneStack most items trucks (takenBy ss) (length (loadEntries ss)) n bs) (λ s. later count (ss ++ s ∷ []))
+  unfolding onward stackLines oneStack
+  later-one count ss n bs = by-fields (line (stackLine trucks (takenBy ss)) n bs)
+    where
+      held : ℕ
+      held = length (loadEntries ss)
+
+      load-line : Reader (List ℕ)
+      load-line = line (loadLine most items held)
+
+      behind : List ℕ → List ℕ → Reader (List Stack)
+      behind fields load = stackLines most items trucks count (stackNumber fields ∷ takenBy ss) (held + length load)
+
+      by-rest : (s : Stack) (x : Outcome (List Stack))
+          → onward (onward x (λ rest. give (s ∷ rest))) (λ rest. give (ss ++ rest)) ≡ onward x (λ rest. give ((ss ++ s ∷ []) ++ rest))
+      by-rest s (found rest n bs) = ap (λ (l : List Stack). found l n bs) (sym (append-assoc ss (s ∷ []) rest))
+      by-rest s (wrongForm n) = refl
+      by-rest s (outOfRange n) = refl
+
+      by-load : (fields : List ℕ) (x : Outcome (List ℕ))
+          → onward (onward x (λ load n bs. onward (behind fields load n bs) (λ rest. give (stackOf fields load ∷ rest)))) (λ rest. give (ss ++ rest))
+          ≡ onward (onward x (λ load. give (stackOf fields load))) (λ s. later count (ss ++ s ∷ []))
+      by-load fields (found load n bs) =
+          let s = stackOf fields load in
+          let long : length (loadEntries (ss ++ s ∷ [])) ≡ held + length load = ap length (loads-more s ss) ∙ length-append (loadEntries ss) load in
+          rw (taken-more s ss, long) (by-rest s (behind fields load n bs))
+      by-load fields (wrongForm n) = refl
+      by-load fields (outOfRange n) = refl
+
+      by-fields : (x : Outcome (List ℕ))
+          → onward (onward x (λ fields n bs. onward (load-line n bs) (λ load n bs. onward (behind fields load n bs) (λ rest. give (stackOf fields load ∷ rest)))))
+          (λ rest. give (ss ++ rest))
+          ≡ onward (onward x (λ fields n bs. onward (load-line n bs) (λ load. give (stackOf fields load)))) (λ s. later count (ss ++ s ∷ []))
+      by-fields (found fields n bs) = by-load fields (load-line n bs)
+      by-fields (wrongForm n) = refl
+      by-fields (outOfRange n) = refl
+
+  module _ (file : List ℕ) (ss : List Stack) (q : Progress) where
+    -- after one more
+    later-next : (count : ℕ) (s : Stack) (r : Progress)
+        → reached file s r ≡ resumed file q (oneStack most items trucks (takenBy ss) (length (loadEntries ss)))
+        → onward (reached file ss q) (later (suc count)) ≡ onward (reached file (ss ++ s ∷ []) r) (later count)
+    unfolding onward
+    later-next count s r e = go q e ∙ on-reached file s r (λ x. ss ++ x ∷ []) (later count)
+      where
+        go : (q : Progress) → reached file s r ≡ resumed file q (oneStack most items trucks (takenBy ss) (length (loadEntries ss)))
+            → onward (reached file ss q) (later (suc count)) ≡ onward (reached file s r) (λ x. later count (ss ++ x ∷ []))
+        go (Next at n k) e = later-one count ss (suc n) (drop at file) ∙ rw e refl
+        go (WrongForm n) e = rw e refl
+        go (OutOfRange n) e = rw e refl
+
+    -- after the last
+    later-done : onward (reached file ss q) (later 0) ≡ reached file ss q
+    unfolding onward stackLines
+    later-done = go q
+      where
+        go : (q : Progress) → onward (reached file ss q) (later 0) ≡ reached file ss q
+        go (Next at n k) = ap (λ (l : List Stack). found l (suc n) (drop at file)) (append-nil ss)
+        go (WrongForm n) = refl
+        go (OutOfRange n) = refl
+
+-- ---- one stack, as the code reads it
+module _ (m : Limits) (items trucks k held n : ℕ) (file part₀ part₁ ys : List ℕ) (p q r : Progress) where
+  -- the part of the loads
+  abbrev lent : List ℕ
+  lent = midOf (8 * m .stacks) (length part₁ - 8 * m .stacks) part₁
+
+  pub stack-read : k < m .stacks → held ≤ m .loads → length part₀ ≡ 8 * m .stacks + m .loads → length part₁ ≡ length part₀ → length ys ≡ length lent
+      → ReadInto file (line (stackLine trucks (rowNumbers k part₀))) (λ fields. spliced (8 * k) fields part₀) p q part₁
+      → ReadEntries file (line (loadLine (length lent) items held)) (λ load. spliced held load lent) q r ys
+      → held + entriesOf r ≤ length lent → n ≡ entriesOf r
+      → StackRead m items trucks k held file p r part₀ (set (set (putMid (8 * m .stacks) (length part₁ - 8 * m .stacks) part₁ ys) (8 * k + 6) held) (8 * k + 7) n)
+  stack-read h room long same lent-same row load within counted =
+      let all : length lent ≡ m .loads = simp (length-take, length-drop) (omega arith) in
+      let s = stackOf (row .value) (load .into .value) in
+      record {
+        into =
+            record {
+              value = s;
+              says =
+                  stack-says (m .loads) items trucks file (rowNumbers k part₀) held p q r (row .value) (load .into .value) (row .says)
+                  (rw all at (load .into .says));
+              holds = λ going.
+                  let goingRow = going-before file (load .into .value) q r (line (loadLine (length lent) items held)) (load .into .says) going in
+                  let meets = read-meets file (row .value) (stackLine trucks (rowNumbers k part₀)) p q (row .says) goingRow in
+                  stack-put m k held n s part₀ part₁ ys (omega (arith, meets .least, meets .most)) h room (counted ∙ load .count going) long same lent-same
+                  (row .holds goingRow) (load .into .holds going);
+              sound = load .into .sound;
+            };
+        count = load .count;
+        within = omega (arith, all);
+      }
+
+-- ---- the state of the loop: k stacks of `count` are read, and their loads hold `held` entries. What was read, then what is left, is the
+-- whole answer
+pub record SoFar (m : Limits) (items trucks count : ℕ) (file : List ℕ) (p : Progress) (part : List ℕ) (q : Progress) (held k : ℕ) : Type 0 where
+  pub stacks : List Stack
+  pub many : length stacks ≡ k
+  pub below : k ≤ count
+  pub room : held ≤ m .loads
+  pub long : length part ≡ 8 * m .stacks + m .loads
+  pub sound : Sound file q
+  pub stands : Going q → Stands m stacks held part
+  pub says : onward (reached file stacks q) (later (m .loads) items trucks (count - k)) ≡ resumed file p (stackLines (m .loads) items trucks count [] 0)
+
+pub so-far-first : (m : Limits) (items trucks count : ℕ) (file : List ℕ) (p : Progress) (part : List ℕ)
+    → part ≡ replicate (8 * m .stacks + m .loads) 0 → Sound file p → SoFar m items trucks count file p part p 0 0
+so-far-first m items trucks count file p part cleared sound =
+    record {
+      stacks = [];
+      many = refl;
+      below = omega arith;
+      room = omega arith;
+      long = ap length cleared ∙ length-replicate {A = ℕ} (8 * m .stacks + m .loads) 0;
+      sound = sound;
+      stands = λ going. stands-none m part cleared;
+      says = rw (sub-zero count) (later-first (m .loads) items trucks file count p);
+    }
+
+module _ {m : Limits} {items trucks count : ℕ} {file : List ℕ} {p : Progress} {part : List ℕ} {q : Progress} {held k : ℕ}
+    (t : SoFar m items trucks count file p part q held k) where
+  -- one stack more
+  pub so-far-next : (r : Progress) (part′ : List ℕ) (n : ℕ) → k < count → count ≤ m .stacks → n ≡ entriesOf r → length part′ ≡ length part
+      → StackRead m items trucks k held file q r part part′ → SoFar m items trucks count file p part′ r (held + n) (k + 1)
+  so-far-next r part′ n h fits counted same one =
+      let s = one .into .value in
+      let ss = t .stacks in
+      let left : count - k ≡ suc (count - (k + 1)) = omega arith in
+      let before : Going r → Going q = going-before file s q r (oneStack (m .loads) items trucks (rowNumbers k part) held) (one .into .says) in
+      let follows : reached file s r ≡ resumed file q (oneStack (m .loads) items trucks (takenBy ss) (length (loadEntries ss))) =
+      resumed-same file s q r _ _ (λ going.
+      let stands = t .stands going in
+      ap₂ (oneStack (m .loads) items trucks) (ap (λ (n : ℕ). rowNumbers n part) (sym (t .many)) ∙ stands-taken stands) (stands .counted)) (one .into .says)
+      in
+      record {
+        stacks = ss ++ s ∷ [];
+        many = length-append ss (s ∷ []) ∙ omega (arith, t .many);
+        below = omega arith;
+        room = omega (arith, one .within);
+        long = same ∙ t .long;
+        sound = one .into .sound;
+        stands = λ going.
+            let six = read-has file s SixFields q r _ (one-six (m .loads) items trucks (rowNumbers k part) held) (one .into .says) going in
+            let load : n ≡ length (s .load) = counted ∙ one .count going in
+            let more = stands-more (t .stands (before going)) s six (omega (arith, t .many)) (omega (arith, one .within)) in
+            rw (load, one .into .holds going, ← t .many) more;
+        says = sym (later-next (m .loads) items trucks file ss q (count - (k + 1)) s r follows) ∙ rw left at (t .says);
+      }
+
+  -- all are read
+  pub so-far-done : count ≤ k → ReadInto file (stackLines (m .loads) items trucks count [] 0) (planWords m) p q part
+  so-far-done h =
+      let none : count - k ≡ 0 = omega arith in
+      record {
+        value = t .stacks;
+        says = sym (later-done (m .loads) items trucks file (t .stacks) q) ∙ rw none at (t .says);
+        holds = λ going. t .stands going .words;
+        sound = t .sound;
+      }

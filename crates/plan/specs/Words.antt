@@ -1,0 +1,60 @@
+-- The stacks and loads of a plan as they stand in the table, and the plan's lines for an instance of so many items and trucks.
+use mathlib.Core.Path.{_≡_}
+use mathlib.Core.List.{List, [], _∷_, _++_}
+use Prim.Native.Nat.{ℕ, zero, suc, _+_, _*_, _≤_}
+use lib.ListN.{length, getD, take, drop}
+use Rattle.meaning.specs.declared.Limits.{Limits}
+use Rattle.meaning.specs.Lists.{padded}
+use Rattle.meaning.specs.Reader.{Reader, give, line, onward, _>>=_, atEnd}
+use Rattle.meaning.specs.Files.{stackLine, loadLine, stackLines, numberLine, _to_}
+use Rattle.meaning.specs.Model.{Stack}
+use Rattle.meaning.specs.Table.{stackWords, loadEntries}
+use Rattle.lines.specs.declared.Progress.{Progress}
+use Rattle.lines.specs.declared.Progress.the-variants.{Next}
+use Rattle.lines.specs.Progress.{Going, entriesOf, ReadInto}
+use Rattle.plan.specs.declared.PlanRead.{PlanRead}
+
+-- xs with ys in the place of the words from `at` on
+abbrev pub spliced : ℕ → List ℕ → List ℕ → List ℕ
+spliced at ys xs = take at xs ++ (ys ++ drop (at + length ys) xs)
+
+-- the numbers of the stacks in the first k rows, the last one first
+unfoldable pub rowNumbers : ℕ → List ℕ → List ℕ
+rowNumbers zero part = []
+rowNumbers (suc k) part = getD part (8 * k) 0 ∷ rowNumbers k part
+
+-- one `stack=` line with its `load=` line, behind others whose numbers are `taken` and whose loads hold `held` entries
+unfoldable pub oneStack : ℕ → ℕ → ℕ → List ℕ → ℕ → Reader Stack
+unfolding onward line
+oneStack most items trucks taken held = do
+  fields ← line (stackLine trucks taken)
+  load ← line (loadLine most items held)
+  give (record { fields = fields; load = load })
+
+-- the part with the k-th stack in it
+abbrev pub withStack : Limits → ℕ → ℕ → List ℕ → Stack → List ℕ
+withStack m k held part s = spliced (8 * m .stacks + held) (s .load) (spliced (8 * k) (s .fields ++ (held ∷ length (s .load) ∷ [])) part)
+
+-- what reading one stack promises: the number of its items besides, which are within the limits also after a refusal
+pub record StackRead (m : Limits) (items trucks k held : ℕ) (file : List ℕ) (p r : Progress) (part₀ part : List ℕ) : Type 0 where
+  pub into : ReadInto file (oneStack (m .loads) items trucks (rowNumbers k part₀) held) (withStack m k held part₀) p r part
+  pub count : Going r → entriesOf r ≡ length (into .value .load)
+  pub within : held + entriesOf r ≤ m .loads
+
+-- the words of a plan, from the first word of the stacks on
+unfoldable pub planWords : Limits → List Stack → List ℕ
+unfolding stackWords loadEntries
+planWords m p = padded (8 * m .stacks) (stackWords 0 p) ++ padded (m .loads) (loadEntries p)
+
+-- the whole file: "stacks= (0..256), then per stack", and no line behind them
+unfoldable pub planFile : Limits → ℕ → ℕ → Reader (List Stack)
+unfolding onward numberLine stackLines atEnd
+planFile m items trucks = do
+  n ← numberLine "stacks=" (0 to m .stacks)
+  p ← stackLines (m .loads) items trucks n [] 0
+  atEnd p
+
+-- what reading the plan promises: the number of its stacks besides
+pub record IsPlanRead (m : Limits) (items trucks : ℕ) (file : List ℕ) (r : PlanRead) (part : List ℕ) : Type 0 where
+  pub into : ReadInto file (planFile m items trucks) (planWords m) (Next 0 0 0) (r .progress) part
+  pub stacks : Going (r .progress) → r .stacks ≡ length (into .value)

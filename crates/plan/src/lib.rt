@@ -1,0 +1,163 @@
+// The plan file, read into the table's stacks and the loads behind them.
+ghost use mathlib.Core.Path.{_≡_};
+ghost use mathlib.Core.List.{[]};
+ghost use mathlib.Core.Bool.{_&&_, not};
+ghost use Prim.Native.Nat.{ℕ, _+_, _*_, _≤_, _<_};
+ghost use lib.ListN.{length};
+ghost use Rattle.meaning.specs.Lists.{listed};
+ghost use Rattle.meaning.specs.Reader.{line};
+ghost use Rattle.meaning.specs.Files.{allWithin, stackRanges, stackLine, loadLine, stackLines};
+ghost use Rattle.table.specs.Filled.{Bounded};
+ghost use Rattle.lines.specs.Progress.{entriesOf, Sound, ReadInto, ReadEntries};
+ghost use Rattle.plan.specs.Words.{spliced, rowNumbers, StackRead, planWords, IsPlanRead};
+use lines::Progress;
+use lines::all_between;
+use lines::at_end;
+use lines::entries;
+use lines::in_ranges;
+use lines::judged;
+use lines::number_line;
+use lines::stored_line;
+use meaning::Limits;
+use table::clear;
+
+// Whether one of the stacks in the first rows has this number.
+pub fn is_taken(part: &[u32], rows: usize, number: u32) -> bool
+    requires { ⌜ 8 * rows ≤ length (now part) ⌝ }
+    ensures { λ r. ⌜ r ≡ listed number (rowNumbers rows (now (part .entry))) ⌝ }
+{
+    let mut k = rows;
+    while 0 < k {
+        k -= 1;
+        if part[8 * k] == number {
+            return true;
+        }
+    }
+    false
+}
+
+// Whether the fields of a stack's line are in range for so many trucks.
+pub fn stack_in_range(fields: &[u32], trucks: u32) -> bool
+    requires { ⌜ length (now fields) ≡ 6 ⌝ }
+    ensures { λ r. ⌜ r ≡ allWithin (stackRanges trucks) (now (fields .entry)) ⌝ }
+{
+    let lows: [u32; 6] = [1, 1, 0, 0, 0, 1];
+    let highs: [u32; 6] = [65535, trucks, 99, 20000, 20000, 2];
+    in_ranges(fields, &lows, &highs)
+}
+
+// The k-th `stack=` line, into the first six words of its row. Its number is to differ from those of the rows before.
+pub fn read_stack_row(file: &[u8], p: Progress, trucks: u32, k: usize, part: &mut [u32]) -> Progress
+    requires { ⌜ Sound (now file) p × (trucks < 4294967295) × (8 * k + 8 ≤ length (now part)) ⌝ }
+    ensures { λ r. ⌜ ReadInto (now (file .entry)) (line (stackLine trucks (rowNumbers k (now (part .entry))))) (λ fields. spliced (8 * k) fields (now (part .entry))) p r (now (part .exit)) ⌝ }
+{
+    let row = 8 * k;
+    let stored = stored_line(file, p, b"stack=", 6, &mut part[row..row + 6]);
+    let in_range = stack_in_range(&part[row..row + 6], trucks);
+    let taken = is_taken(part, k, part[row]);
+    judged(file, stored, in_range && !taken)
+}
+
+// The same words, one after another.
+pub fn copy_words(from: &[u32], to: &mut [u32])
+    requires { ⌜ length (now from) ≡ length (now to) ⌝ }
+    ensures { λ _. ⌜ now (to .exit) ≡ now (from .entry) ⌝ }
+{
+    let mut i = 0;
+    while i < to.len() {
+        to[i] = from[i];
+        i += 1;
+    }
+}
+
+// A `load=` line, behind the entries that the loads hold already. All together are to have room.
+pub fn read_load(file: &[u8], p: Progress, items: u32, held: usize, loads: &mut [u32]) -> Progress
+    requires { ⌜ Sound (now file) p × (items < 4294967295) × (held ≤ length (now loads)) × (length (now loads) ≤ 65536) ⌝ }
+    ensures read { λ r. ⌜ ReadEntries (now (file .entry)) (line (loadLine (length (now (loads .entry))) items held)) (λ load. spliced held load (now (loads .entry))) p r (now (loads .exit)) ⌝ }
+    ensures within { λ r. ⌜ held + entriesOf r ≤ length (now (loads .entry)) ⌝ }
+{
+    let mut load: [u32; 64] = [0; 64];
+    let stored = stored_line(file, p, b"load=", 1, &mut load);
+    let count = entries(stored);
+    let in_range = all_between(&load[0..count], 1, items);
+    let r = judged(file, stored, in_range && held + count <= loads.len());
+    let kept = entries(r);
+    copy_words(&load[0..kept], &mut loads[held..held + kept]);
+    r
+}
+
+// The k-th stack: its line, its load, and where the load stands.
+pub fn read_stack(
+    limits: Limits,
+    file: &[u8],
+    p: Progress,
+    items: u32,
+    trucks: u32,
+    k: usize,
+    held: usize,
+    part: &mut [u32],
+) -> Progress
+    requires { ⌜ Bounded limits × Sound (now file) p × (items < 4294967295) × (trucks < 4294967295) × (k < limits .stacks) × (held ≤ limits .loads) × (length (now part) ≡ 8 * limits .stacks + limits .loads) ⌝ }
+    ensures { λ r. ⌜ StackRead limits items trucks k held (now (file .entry)) p r (now (part .entry)) (now (part .exit)) ⌝ }
+{
+    let row = 8 * k;
+    let loads = 8 * limits.stacks;
+    let q = read_stack_row(file, p, trucks, k, part);
+    let r = read_load(file, q, items, held, &mut part[loads..]);
+    part[row + 6] = held as u32;
+    part[row + 7] = entries(r) as u32;
+    r
+}
+
+// So many stacks one after another.
+pub fn read_stacks(
+    limits: Limits,
+    file: &[u8],
+    p: Progress,
+    items: u32,
+    trucks: u32,
+    count: usize,
+    part: &mut [u32],
+) -> Progress
+    requires { ⌜ Bounded limits × Sound (now file) p × (items < 4294967295) × (trucks < 4294967295) × (count ≤ limits .stacks) × (length (now part) ≡ 8 * limits .stacks + limits .loads) ⌝ }
+    ensures { λ r. ⌜ ReadInto (now (file .entry)) (stackLines (limits .loads) items trucks count [] 0) (planWords limits) p r (now (part .exit)) ⌝ }
+{
+    clear(part);
+    let mut q = p;
+    let mut held: usize = 0;
+    let mut k: usize = 0;
+    while k < count {
+        q = read_stack(limits, file, q, items, trucks, k, held, part);
+        held += entries(q);
+        k += 1;
+    }
+    q
+}
+
+// How far the plan is read, and how many stacks it announces; 0 where a refusal left that unread.
+pub struct PlanRead {
+    pub progress: Progress,
+    pub stacks: u32,
+}
+
+// The plan file, for an instance of so many items and trucks, into the words from the stacks on.
+pub fn read_plan(limits: Limits, file: &[u8], items: u32, trucks: u32, part: &mut [u32]) -> PlanRead
+    requires { ⌜ Bounded limits × (items < 4294967295) × (trucks < 4294967295) × (length (now part) ≡ 8 * limits .stacks + limits .loads) ⌝ }
+    ensures { λ r. ⌜ IsPlanRead limits items trucks (now (file .entry)) r (now (part .exit)) ⌝ }
+{
+    let stacks = number_line(
+        file,
+        Progress::Next(0, 0, 0),
+        b"stacks=",
+        0,
+        limits.stacks as u32,
+    );
+    let announced = stacks.progress;
+    let count = stacks.value;
+    let read = read_stacks(limits, file, announced, items, trucks, count as usize, part);
+    let progress = at_end(file, read);
+    PlanRead {
+        progress: progress,
+        stacks: count,
+    }
+}
