@@ -1,0 +1,209 @@
+-- The named words while they are filled: first those of the instance, then those of the plan; and what is answered on the way.
+use mathlib.Core.Path.{_≡_, refl, sym, ap, ap₂, _∙_}
+use mathlib.Core.Option.{Option, none, some}
+use mathlib.Core.List.{List, [], _∷_, _++_, flatMap, append-assoc, append-nil}
+use Prim.Native.Nat.{ℕ, suc, _+_, _-_, _*_}
+use native.Mathlib.Nat.{sub-zero}
+use native.Mathlib.Numerals.{add-one}
+use native.Mathlib.Omega.{arith}
+use lib.ListN.{length, set, take, drop, replicate, length-append, length-drop, length-replicate, replicate-append-replicate, drop-of-length-le}
+use lib.Seq.{take-at, drop-at}
+use borrow.Rule.Slice.PartMut.{putMid}
+use Rattle.meaning.specs.declared.Limits.{Limits}
+use Rattle.meaning.specs.declared.Place.{Place}
+use Rattle.meaning.specs.declared.Answer.{Answer}
+use Rattle.meaning.specs.Limits.{stacksAt, named}
+use Rattle.meaning.specs.Model.{Instance, Stack}
+use Rattle.meaning.specs.Reader.{Outcome, found, wrongForm, outOfRange, Reader, _>>=_, onward, atEnd, wholeFile}
+use Rattle.meaning.specs.Files.{_to_, numberLine, instanceLines, stackLines, planLines}
+use Rattle.meaning.specs.Table.{headWords, stackWords, loadEntries, words, instanceIn}
+use Rattle.meaning.specs.InRange.{InRange, InstanceInRange}
+use Rattle.meaning.specs.Places.{place, lowest}
+use Rattle.meaning.specs.Verdict.{refusal}
+use Rattle.meaning.specs.Check.{Reading, refused, readable, refusedAt, afterPlan, afterClash, afterInstance, codeClashes}
+use Rattle.meaning.proofs.Outcomes.{Finds}
+use Rattle.meaning.proofs.ReadFiles.{Wholly}
+use Rattle.meaning.proofs.Printed.{instance-off}
+use Rattle.meaning.proofs.Ranges.{in-range-fits}
+use Rattle.meaning.proofs.Decode.{decodes}
+use Rattle.table.specs.Filled.{Bounded}
+use Rattle.table.proofs.Fill.{words-filled}
+use Rattle.lines.specs.declared.Progress.{Progress}
+use Rattle.lines.specs.declared.Progress.the-variants.{Next, WrongForm, OutOfRange}
+use Rattle.lines.specs.Progress.{reached, ReadInto}
+use Rattle.instance.specs.Words.{instanceFile, instanceWords}
+use Rattle.plan.specs.declared.PlanRead.{PlanRead}
+use Rattle.plan.specs.Words.{planWords, planFile, IsPlanRead}
+use Rattle.reading.specs.declared.FilesRead.{FilesRead}
+use Rattle.reading.specs.declared.FilesRead.the-variants.{Readable, InstanceForm, InstanceRange, CodeClash, PlanForm, PlanRange}
+use Rattle.reading.specs.Answered.{refusalOf, IsFilled, HoldsInstance}
+
+-- ---- the words of a model are those of its instance and those of its plan
+module _ (m : Limits) (i : Instance) where
+  -- with no stack yet
+  no-stack-words : instanceWords m i ++ planWords m [] ≡ words m i []
+  unfolding instanceWords planWords words headWords
+  no-stack-words = simp append-assoc
+
+  -- once the number of stacks stands in its word
+  stack-words : (p : List Stack) → set (instanceWords m i ++ planWords m p) 5 (length p) ≡ words m i p
+  unfolding instanceWords planWords words headWords
+  stack-words p = simp append-assoc
+
+-- the words of no stacks are zero, as many as stand from the stacks on
+abbrev zerosBehind : Limits → List ℕ
+zerosBehind m = replicate (8 * m .stacks + m .loads) 0
+
+no-plan-words : (m : Limits) → planWords m [] ≡ zerosBehind m
+unfolding planWords stackWords loadEntries flatMap
+no-plan-words m = rw (sub-zero (8 * m .stacks), sub-zero (m .loads)) (replicate-append-replicate {A = ℕ} (8 * m .stacks) (m .loads) 0)
+
+drop-zeros : (m : Limits) → drop (stacksAt m) (replicate {A = ℕ} (named m) 0) ≡ zerosBehind m
+drop-zeros m =
+    let e : named m ≡ stacksAt m + (8 * m .stacks + m .loads) = omega arith in
+    rw (e, ← replicate-append-replicate {A = ℕ} (stacksAt m) (8 * m .stacks + m .loads) 0)
+    (drop-at (replicate (stacksAt m) 0) (zerosBehind m) (stacksAt m) (length-replicate {A = ℕ} (stacksAt m) 0))
+
+-- ---- an instance in range, in the named words
+module _ (m : Limits) (i : Instance) (r : InstanceInRange m i) where
+  -- with no stack it is a model in range
+  range : InRange m i []
+  range = record { instance = r; stackCount = omega arith; stacks = tt }
+
+  instance-alone : instanceIn m (words m i []) ≡ i
+  instance-alone = decodes m i [] (in-range-fits m i [] range) .instance
+
+  instance-size : length (instanceWords m i) ≡ stacksAt m
+  instance-size =
+      let whole = ap length (no-stack-words m i) ∙ decodes m i [] (in-range-fits m i [] range) .size in
+      let behind = ap length (no-plan-words m) ∙ length-replicate {A = ℕ} (8 * m .stacks + m .loads) 0 in
+      omega (arith, whole, behind, length-append (instanceWords m i) (planWords m []))
+
+  -- its words in front of zeros are those of a model with no stack
+  instance-placed : (zeros : List ℕ) (end : ℕ) → zeros ≡ replicate (named m) 0 → end ≡ stacksAt m → instanceWords m i ++ drop end zeros ≡ words m i []
+  instance-placed zeros end z e = rw (z, e, drop-zeros m, ← no-plan-words m) (no-stack-words m i)
+
+  holds-instance : Bounded m → HoldsInstance m (words m i [])
+  holds-instance b = record { filled = words-filled m i [] range b; exactly = rw instance-alone }
+
+  -- the stacks and loads in their place, and the number of stacks
+  plan-placed : (t : List ℕ) (at : ℕ) (p : List Stack) → t ≡ words m i [] → at ≡ stacksAt m
+      → set (putMid at (length t - at) t (planWords m p)) 5 (length p) ≡ words m i p
+  plan-placed t at p e h =
+      let front : take at t ≡ instanceWords m i =
+      rw (e, ← no-stack-words m i, h) (take-at (instanceWords m i) (planWords m []) (stacksAt m) instance-size)
+      in
+      let none-left : drop (length t - at) (drop at t) ≡ [] = drop-of-length-le (drop at t) {i = length t - at} (omega (arith, length-drop at t)) in
+      rw (front, none-left, append-nil (planWords m p)) (stack-words m i p)
+
+-- ---- what reading a file says
+-- a reader of three parts may be taken apart at either seam
+onward-onward : {A B C : Type 0} (r : Outcome A) (f : A → Reader B) (g : B → Reader C) → onward r (λ a. f a >>= g) ≡ onward (onward r f) g
+unfolding onward
+onward-onward (found a n rest) f g = refl
+onward-onward (wrongForm n) f g = refl
+onward-onward (outOfRange n) f g = refl
+
+plan-file : (m : Limits) (i : Instance) (file : List ℕ) → planFile m (length (i .items)) (length (i .trucks)) 1 file ≡ wholeFile (planLines m i) file
+unfolding planFile planLines wholeFile
+plan-file m i file =
+    onward-onward (numberLine "stacks=" (0 to m .stacks) 1 file) (λ n. stackLines (m .loads) (length (i .items)) (length (i .trucks)) n [] 0) atEnd
+
+-- what a whole file is read as was found, and nothing is left
+whole-finds : {A : Type 0} (r : Outcome A) (a : A) (n : ℕ) (rest : List ℕ) → found a n rest ≡ onward r atEnd → Finds (Wholly a) r
+unfolding onward atEnd
+whole-finds (found b k []) a n rest e = (cc, refl)
+whole-finds (found b k (x ∷ left)) a n rest e = absurd (let z : _≡_ {A = ℕ} 0 1 = cc in omega arith)
+whole-finds (wrongForm k) a n rest e = let z : _≡_ {A = ℕ} 0 1 = cc in omega arith
+whole-finds (outOfRange k) a n rest e = let z : _≡_ {A = ℕ} 0 1 = cc in omega arith
+
+-- ---- what is answered
+module _ (m : Limits) (says : Reading) (t : List ℕ) where
+  -- a refusal says nothing of the words
+  refused-filled : (r : FilesRead) (a : Answer) → says ≡ refused a → refusalOf r ≡ some a → IsFilled m says r t
+  refused-filled r a e k = record { refusal = rw e k; holds = λ i p f. absurd (let z : _≡_ {A = ℕ} 0 1 = cc in omega arith) }
+
+  -- readable files say all of them
+  readable-filled : (i : Instance) (p : List Stack) → says ≡ readable i p → t ≡ words m i p → IsFilled m says Readable t
+  readable-filled i p e k = record { refusal = rw e; holds = λ j q f. k ∙ ap₂ (words m) (cc) (cc) }
+
+  -- a refusal at the line behind n lines
+  line-refused : (r : FilesRead) (verdict n line : ℕ) → says ≡ refusedAt verdict (suc n) → line ≡ n + 1
+      → refusalOf r ≡ some (refusal verdict (place line 0 0)) → IsFilled m says r t
+  line-refused r verdict n line e k f = refused-filled r _ e (f ∙ ap (λ (l : ℕ). some (refusal verdict (place l 0 0))) (k ∙ add-one n))
+
+-- ---- by how far the instance is read
+module _ (m : Limits) (file : List ℕ) (p : Progress) (part : List ℕ) (h : ReadInto file (instanceFile m) (instanceWords m) (Next 0 0 0) p part) where
+  -- what both files give
+  abbrev both : List ℕ → Reading
+  both plan = afterInstance m plan (wholeFile (instanceLines m) file)
+
+  instance-said : (q : Progress) → p ≡ q → wholeFile (instanceLines m) file ≡ reached file (h .value) q
+  unfolding wholeFile
+  instance-said q e = sym (h .says) ∙ ap (reached file (h .value)) e
+
+  pub instance-form : (plan t : List ℕ) (n line : ℕ) → p ≡ WrongForm n → line ≡ n + 1 → IsFilled m (both plan) (InstanceForm line) t
+  unfolding afterInstance
+  instance-form plan t n line e k = line-refused m (both plan) t (InstanceForm line) 4 n line (ap (afterInstance m plan) (instance-said (WrongForm n) e)) k refl
+
+  pub instance-range : (plan t : List ℕ) (n line : ℕ) → p ≡ OutOfRange n → line ≡ n + 1 → IsFilled m (both plan) (InstanceRange line) t
+  unfolding afterInstance
+  instance-range plan t n line e k = line-refused m (both plan) t (InstanceRange line) 5 n line (ap (afterInstance m plan) (instance-said (OutOfRange n) e)) k refl
+
+  -- where it is read to its end: the words are ready for the plan, and what the plan gives is what both files give
+  module _ (at n k : ℕ) (e : p ≡ Next at n k) where
+    in-range : InstanceInRange m (h .value)
+    unfolding wholeFile
+    in-range =
+        instance-off m file (h .value) (whole-finds (instanceLines m 1 file) (h .value) (suc n) (drop at file) (sym (instance-said (Next at n k) e))) .0
+
+    module _ (zeros : List ℕ) (end : ℕ) (z : zeros ≡ replicate (named m) 0) (f : end ≡ stacksAt m) where
+      placed : part ++ drop (end - 0) zeros ≡ words m (h .value) []
+      placed = rw (sub-zero end, rw e at (h .holds) tt) (instance-placed m (h .value) in-range zeros end z f)
+
+      pub instance-ready : Bounded m → HoldsInstance m (part ++ drop (end - 0) zeros)
+      instance-ready b = rw placed (holds-instance m (h .value) in-range b)
+
+      abbrev alone : Instance
+      alone = instanceIn m (part ++ drop (end - 0) zeros)
+
+      pub instance-onward : (plan : List ℕ) (r : FilesRead) (t : List ℕ) → IsFilled m (afterClash m alone plan (lowest (codeClashes alone))) r t
+          → IsFilled m (both plan) r t
+      unfolding afterInstance
+      instance-onward plan r t later =
+          let same : alone ≡ h .value = ap (instanceIn m) placed ∙ instance-alone m (h .value) in-range in
+          rw (instance-said (Next at n k) e) (rw same at later)
+
+-- ---- by the lowest code clash
+module _ (m : Limits) (i : Instance) (plan : List ℕ) (o : Option Place) (t : List ℕ) where
+  pub clash-refused : (n first : ℕ) → some (place n first 0) ≡ o → IsFilled m (afterClash m i plan o) (CodeClash n first) t
+  unfolding afterClash
+  clash-refused n first e = refused-filled m (afterClash m i plan o) t (CodeClash n first) _ (ap (afterClash m i plan) (sym e)) refl
+
+  pub no-clash : (r : FilesRead) → none ≡ o → IsFilled m (afterPlan i (wholeFile (planLines m i) plan)) r t → IsFilled m (afterClash m i plan o) r t
+  unfolding afterClash
+  no-clash r e h = rw (← e) h
+
+-- ---- by how far the plan is read
+module _ (m : Limits) (i : Instance) (file : List ℕ) (items trucks : ℕ) (r : PlanRead) (part : List ℕ) (a : items ≡ length (i .items))
+    (b : trucks ≡ length (i .trucks)) (h : IsPlanRead m items trucks file r part) where
+  abbrev onPlan : Reading
+  onPlan = afterPlan i (wholeFile (planLines m i) file)
+
+  plan-said : (q : Progress) → r .progress ≡ q → wholeFile (planLines m i) file ≡ reached file (h .into .value) q
+  plan-said q e = sym (h .into .says ∙ rw (a, b) (plan-file m i file)) ∙ ap (reached file (h .into .value)) e
+
+  pub plan-form : (t : List ℕ) (n line : ℕ) → r .progress ≡ WrongForm n → line ≡ n + 1 → IsFilled m onPlan (PlanForm line) t
+  unfolding afterPlan
+  plan-form t n line e k = line-refused m onPlan t (PlanForm line) 7 n line (ap (afterPlan i) (plan-said (WrongForm n) e)) k refl
+
+  pub plan-range : (t : List ℕ) (n line : ℕ) → r .progress ≡ OutOfRange n → line ≡ n + 1 → IsFilled m onPlan (PlanRange line) t
+  unfolding afterPlan
+  plan-range t n line e k = line-refused m onPlan t (PlanRange line) 8 n line (ap (afterPlan i) (plan-said (OutOfRange n) e)) k refl
+
+  pub plan-readable : (t : List ℕ) (from at n k : ℕ) → InstanceInRange m i → t ≡ words m i [] → from ≡ stacksAt m → r .progress ≡ Next at n k
+      → IsFilled m onPlan Readable (set (putMid from (length t - from) t part) 5 (r .stacks))
+  unfolding afterPlan
+  plan-readable t from at n k range w f e =
+      readable-filled m onPlan _ i (h .into .value) (ap (afterPlan i) (plan-said (Next at n k) e))
+      (rw (rw e at (h .into .holds) tt, rw e at (h .stacks) tt) (plan-placed m i range t from (h .into .value) w f))

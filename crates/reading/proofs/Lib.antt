@@ -1,0 +1,3 @@
+pub mod Clashes
+pub mod Filling
+pub mod Outer

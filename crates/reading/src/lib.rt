@@ -1,0 +1,230 @@
+// Both files, read into the lent table: the first refusal of 1 to 8 with its places, or the table filled with what the files say.
+ghost use mathlib.Core.Path.{_≡_};
+ghost use mathlib.Core.List.{[]};
+ghost use Prim.Native.Nat.{ℕ, _+_, _≤_, _<_};
+ghost use lib.ListN.{length};
+ghost use Rattle.meaning.specs.Limits.{small, named};
+ghost use Rattle.meaning.specs.Places.{place, lowest};
+ghost use Rattle.meaning.specs.Reader.{wholeFile};
+ghost use Rattle.meaning.specs.Files.{instanceLines, planLines};
+ghost use Rattle.meaning.specs.Model.{item};
+ghost use Rattle.meaning.specs.Table.{instanceIn};
+ghost use Rattle.meaning.specs.Verdict.{refusal};
+ghost use Rattle.meaning.specs.Check.{firstOfCode, sameBase, codeClashes, afterPlan, afterClash, afterInstance, readFiles};
+ghost use Rattle.table.specs.Filled.{Bounded, Filled, IsItem};
+ghost use Rattle.reading.specs.Answered.{clashPlace, IsFilled, HoldsInstance, readableBy, refusalOr, IsNamed, IsRead};
+use instance::read_instance;
+use lines::Progress;
+use meaning::Answer;
+use meaning::Limits;
+use plan::read_plan;
+use table::clear;
+use table::item_count;
+use table::item_field;
+use table::named_words;
+use table::small_limits;
+use table::stacks_at;
+use table::truck_count;
+
+// ---- code clash
+
+// The number of the first item with the code of item n.
+pub fn first_of_code(t: &[u32], limits: Limits, n: u32) -> u32
+    requires { ⌜ Filled limits (now t) × IsItem (instanceIn limits (now t)) n ⌝ }
+    ensures { λ r. ⌜ (r ≡ firstOfCode (instanceIn limits (now (t .entry))) n) × IsItem (instanceIn limits (now (t .entry))) r ⌝ }
+{
+    let code = item_field(t, limits, n, 5);
+    let mut k: u32 = 1;
+    while k < n {
+        if item_field(t, limits, k, 5) == code {
+            return k;
+        }
+        k += 1;
+    }
+    n
+}
+
+// Whether two items have the same length and width.
+pub fn same_base(t: &[u32], limits: Limits, n: u32, k: u32) -> bool
+    requires { ⌜ Filled limits (now t) × IsItem (instanceIn limits (now t)) n × IsItem (instanceIn limits (now t)) k ⌝ }
+    ensures { λ r. ⌜ r ≡ sameBase (item (instanceIn limits (now (t .entry))) n) (item (instanceIn limits (now (t .entry))) k) ⌝ }
+{
+    if item_field(t, limits, n, 0) == item_field(t, limits, k, 0) {
+        item_field(t, limits, n, 1) == item_field(t, limits, k, 1)
+    } else {
+        false
+    }
+}
+
+// An item that differs in length or width from the first item of its code, and that one.
+pub enum Clash {
+    Between(u32, u32),
+    Nowhere,
+}
+
+// The clash of the lowest item. Items are asked from the last to the first, so the last clash found is the lowest.
+pub fn lowest_clash(t: &[u32], limits: Limits) -> Clash
+    requires { ⌜ Filled limits (now t) ⌝ }
+    ensures { λ r. ⌜ clashPlace r ≡ lowest (codeClashes (instanceIn limits (now (t .entry)))) ⌝ }
+{
+    let mut clash = Clash::Nowhere;
+    let mut n = item_count(t, limits);
+    while 0 < n {
+        let first = first_of_code(t, limits, n);
+        if !same_base(t, limits, n, first) {
+            clash = Clash::Between(n, first);
+        }
+        n -= 1;
+    }
+    clash
+}
+
+// ---- filling the named words
+
+// What two files are read as: why they are refused, with the line from 1 or the two items, or that they are readable.
+pub enum FilesRead {
+    ShortTable,
+    InstanceOverlong,
+    PlanOverlong,
+    InstanceForm(u32),
+    InstanceRange(u32),
+    CodeClash(u32, u32),
+    PlanForm(u32),
+    PlanRange(u32),
+    Readable,
+}
+
+// The number of the line behind so many lines.
+fn line_number(lines: usize) -> u32
+    requires { ⌜ lines ≤ 16777216 ⌝ }
+    ensures { λ r. ⌜ r ≡ lines + 1 ⌝ }
+{
+    (lines + 1) as u32
+}
+
+// The plan, once the instance is read and has no code clash.
+pub fn fill_plan(limits: Limits, plan: &[u8], words: &mut [u32]) -> FilesRead
+    requires { ⌜ HoldsInstance limits (now words) × (length (now words) ≡ named limits) × (length (now plan) ≤ limits .bytes) ⌝ }
+    ensures { λ r. ⌜ IsFilled limits (afterPlan (instanceIn limits (now (words .entry))) (wholeFile (planLines limits (instanceIn limits (now (words .entry)))) (now (plan .entry)))) r (now (words .exit)) ⌝ }
+{
+    let items = item_count(words, limits);
+    let trucks = truck_count(words, limits);
+    let from = stacks_at(limits);
+    let read = read_plan(limits, plan, items, trucks, &mut words[from..]);
+    words[5] = read.stacks;
+    let progress = read.progress;
+    match progress {
+        Progress::Next(_, _, _) => FilesRead::Readable,
+        Progress::WrongForm(lines) => FilesRead::PlanForm(line_number(lines)),
+        Progress::OutOfRange(lines) => FilesRead::PlanRange(line_number(lines)),
+    }
+}
+
+// A code clash, or else the plan.
+pub fn fill_after_instance(limits: Limits, plan: &[u8], words: &mut [u32]) -> FilesRead
+    requires { ⌜ HoldsInstance limits (now words) × (length (now words) ≡ named limits) × (length (now plan) ≤ limits .bytes) ⌝ }
+    ensures { λ r. ⌜ IsFilled limits (afterClash limits (instanceIn limits (now (words .entry))) (now (plan .entry)) (lowest (codeClashes (instanceIn limits (now (words .entry)))))) r (now (words .exit)) ⌝ }
+{
+    match lowest_clash(words, limits) {
+        Clash::Between(n, first) => FilesRead::CodeClash(n, first),
+        Clash::Nowhere => fill_plan(limits, plan, words),
+    }
+}
+
+// The instance, then what depends on it.
+pub fn fill(limits: Limits, instance: &[u8], plan: &[u8], words: &mut [u32]) -> FilesRead
+    requires { ⌜ Bounded limits × (length (now words) ≡ named limits) × (length (now instance) ≤ limits .bytes) × (length (now plan) ≤ limits .bytes) ⌝ }
+    ensures { λ r. ⌜ IsFilled limits (afterInstance limits (now (plan .entry)) (wholeFile (instanceLines limits) (now (instance .entry)))) r (now (words .exit)) ⌝ }
+{
+    clear(words);
+    let end = stacks_at(limits);
+    match read_instance(limits, instance, &mut words[0..end]) {
+        Progress::Next(_, _, _) => fill_after_instance(limits, plan, words),
+        Progress::WrongForm(lines) => FilesRead::InstanceForm(line_number(lines)),
+        Progress::OutOfRange(lines) => FilesRead::InstanceRange(line_number(lines)),
+    }
+}
+
+// ---- the answer by document 01's numbers
+
+// An answer that is no acceptance has neither cost nor trucks.
+fn without_cost(number: u32, first: u32, second: u32) -> Answer
+    ensures { λ a. ⌜ a ≡ refusal number (place first second 0) ⌝ }
+{
+    Answer {
+        number: number,
+        first: first,
+        second: second,
+        third: 0,
+        cost: 0,
+        trucks: 0,
+    }
+}
+
+// The refusal's number and places; all 0 where both files are readable, for then the rules decide.
+pub fn answer_to(r: FilesRead) -> Answer
+    ensures { λ a. ⌜ a ≡ refusalOr r ⌝ }
+{
+    match r {
+        FilesRead::ShortTable => without_cost(1, 0, 0),
+        FilesRead::InstanceOverlong => without_cost(2, 0, 0),
+        FilesRead::PlanOverlong => without_cost(3, 0, 0),
+        FilesRead::InstanceForm(line) => without_cost(4, line, 0),
+        FilesRead::InstanceRange(line) => without_cost(5, line, 0),
+        FilesRead::CodeClash(n, first) => without_cost(6, n, first),
+        FilesRead::PlanForm(line) => without_cost(7, line, 0),
+        FilesRead::PlanRange(line) => without_cost(8, line, 0),
+        FilesRead::Readable => without_cost(0, 0, 0),
+    }
+}
+
+// ---- the reading call
+
+// Whether nothing was refused.
+pub fn is_readable(r: FilesRead) -> bool
+    ensures { λ b. ⌜ b ≡ readableBy r ⌝ }
+{
+    match r {
+        FilesRead::Readable => true,
+        _ => false,
+    }
+}
+
+// Reads both files into the named words, which are zero after a refusal.
+pub fn read_named(limits: Limits, instance: &[u8], plan: &[u8], words: &mut [u32]) -> FilesRead
+    requires { ⌜ Bounded limits × (length (now words) ≡ named limits) ⌝ }
+    ensures { λ r. ⌜ IsNamed limits (readFiles limits (now (instance .entry)) (now (plan .entry))) r (now (words .exit)) ⌝ }
+{
+    if limits.bytes < instance.len() {
+        clear(words);
+        return FilesRead::InstanceOverlong;
+    }
+    if limits.bytes < plan.len() {
+        clear(words);
+        return FilesRead::PlanOverlong;
+    }
+    let r = fill(limits, instance, plan, words);
+    if !is_readable(r) {
+        clear(words);
+    }
+    r
+}
+
+// Reads both files within the limits. Only the named words change, and none of a table that is too short.
+pub fn read_within(limits: Limits, instance: &[u8], plan: &[u8], table: &mut [u32]) -> FilesRead
+    requires { ⌜ Bounded limits ⌝ }
+    ensures { λ r. ⌜ IsRead limits (now (instance .entry)) (now (plan .entry)) (now (table .entry)) (now (table .exit)) r ⌝ }
+{
+    let named = named_words(limits);
+    if table.len() < named {
+        return FilesRead::ShortTable;
+    }
+    read_named(limits, instance, plan, &mut table[0..named])
+}
+
+// Reads both files into a table of at least 8,976 words.
+pub fn read_files(instance: &[u8], plan: &[u8], table: &mut [u32]) -> FilesRead
+    ensures { λ r. ⌜ IsRead small (now (instance .entry)) (now (plan .entry)) (now (table .entry)) (now (table .exit)) r ⌝ }
+{
+    read_within(small_limits(), instance, plan, table)
+}
