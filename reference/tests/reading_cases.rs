@@ -70,7 +70,7 @@ fn the_unchanged_load_is_accepted_and_every_verdict_of_reading_occurs() {
     assert_eq!(list[0][1], "0");
     assert_eq!(list[0][7], "unchanged");
     let verdicts: BTreeSet<&str> = list.iter().map(|words| words[1].as_str()).collect();
-    for verdict in ["0", "4", "5", "7", "8"] {
+    for verdict in ["0", "2", "3", "4", "5", "6", "7", "8"] {
         assert!(verdicts.contains(verdict), "{verdict}");
     }
     let kinds: BTreeSet<&str> = list.iter().map(|words| words[7].as_str()).collect();

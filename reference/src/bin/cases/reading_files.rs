@@ -11,6 +11,7 @@ const OUT_OF_RANGE: &[u8] = b"9999999999";
 pub fn add(cases: &mut Cases) {
     add_blank_files(cases);
     add_surplus(cases);
+    add_sizes(cases);
     add_repeats(cases);
     add_counts(cases);
     add_load_totals(cases);
@@ -55,6 +56,19 @@ fn add_surplus(cases: &mut Cases) {
         cases.add_changed(format!("{word}-empty-line-first"), file, |text| {
             text.lines.insert(0, Vec::new());
         });
+    }
+}
+
+/// One byte more than a file may have, and just as many; what is too much stands in an unended line.
+fn add_sizes(cases: &mut Cases) {
+    let load = Load::unchanged();
+    let (instance, plan) = (load.instance.bytes(), load.plan.bytes());
+    for size in [65_536, 65_535] {
+        let filled = |file: &[u8]| [file, &b"0".repeat(size - file.len())].concat();
+        cases.add_files(format!("instance-{size}-bytes"), filled(&instance), plan.clone());
+        cases.add_files(format!("plan-{size}-bytes"), instance.clone(), filled(&plan));
+        cases.add_files(format!("both-{size}-bytes"), filled(&instance), filled(&plan));
+        cases.add_files(format!("empty-instance-plan-{size}-bytes"), Vec::new(), filled(&plan));
     }
 }
 

@@ -1,0 +1,127 @@
+//! Turns generated cases into the stored cases of a program of the repository: its data, and what it must print.
+
+use reference::{check, text, verdict, Answer};
+use std::fmt::Write;
+use std::path::Path;
+use std::process::ExitCode;
+
+const USAGE: &str = "usage: stored DIR CRATE
+  DIR    generated cases (see cases)
+  CRATE  the folder whose data/ and stdout are written";
+
+/// Words of the table that the program has, of which it lends some. The named ones are 8,976.
+const TABLE_WORDS: usize = 8_980;
+/// What every word of the table holds before a call.
+const BEFORE: u32 = 7;
+/// Lengths around the one that is too short.
+const OTHER_LENGTHS: [usize; 3] = [0, 8_975, 8_976];
+
+/// The files of all cases, one after the other. A file that is part of another is not written again.
+#[derive(Default)]
+struct Files {
+    bytes: Vec<u8>,
+}
+
+impl Files {
+    fn place(&mut self, file: &[u8]) -> usize {
+        if file.is_empty() {
+            return 0;
+        }
+        if let Some(start) = self.bytes.windows(file.len()).position(|part| part == file) {
+            return start;
+        }
+        let start = self.bytes.len();
+        self.bytes.extend_from_slice(file);
+        start
+    }
+}
+
+#[derive(Default)]
+struct Stored {
+    files: Files,
+    cases: String,
+    labels: String,
+    printed: String,
+}
+
+fn main() -> ExitCode {
+    let arguments: Vec<String> = std::env::args().skip(1).collect();
+    let [from, to] = &arguments[..] else {
+        eprintln!("{USAGE}");
+        return ExitCode::FAILURE;
+    };
+    match store(Path::new(from), Path::new(to)) {
+        Ok(()) => ExitCode::SUCCESS,
+        Err(error) => {
+            eprintln!("stored: {error}");
+            ExitCode::FAILURE
+        }
+    }
+}
+
+fn store(from: &Path, to: &Path) -> std::io::Result<()> {
+    let mut stored = Stored::default();
+    let list = std::fs::read_to_string(from.join("list.txt"))?;
+    for (index, line) in list.lines().enumerate() {
+        let mut words = line.split(' ');
+        let name = words.next().unwrap_or_default();
+        let label = words.last().unwrap_or_default();
+        let instance = std::fs::read(from.join(format!("{name}.instance")))?;
+        let plan = std::fs::read(from.join(format!("{name}.plan")))?;
+        stored.add(label, &instance, &plan, TABLE_WORDS);
+        if index == 0 {
+            for words in OTHER_LENGTHS {
+                stored.add(&format!("{label}-table-{words}"), &instance, &plan, words);
+            }
+        }
+    }
+    let data = to.join("data");
+    std::fs::create_dir_all(&data)?;
+    std::fs::write(data.join("files.bin"), &stored.files.bytes)?;
+    std::fs::write(data.join("cases.txt"), &stored.cases)?;
+    std::fs::write(data.join("labels.txt"), &stored.labels)?;
+    std::fs::write(to.join("stdout"), &stored.printed)
+}
+
+impl Stored {
+    fn add(&mut self, label: &str, instance: &[u8], plan: &[u8], words: usize) {
+        let (a, b) = (self.files.place(instance), self.files.place(plan));
+        let case = format!("case={a},{},{b},{},{words}", instance.len(), plan.len());
+        writeln!(self.cases, "{case}").expect("a string takes every line");
+        writeln!(self.labels, "{label}").expect("a string takes every line");
+        let printed = printed(instance, plan, words);
+        writeln!(self.printed, "{printed}").expect("a string takes every line");
+    }
+}
+
+/// The line for one case: number, two places, checksum of the whole table, and the bad line's file, start and end.
+fn printed(instance: &[u8], plan: &[u8], words: usize) -> String {
+    let mut table = vec![BEFORE; TABLE_WORDS];
+    let answer = check(instance, plan, &mut table[..words]);
+    // Reading goes up to verdict 8: what a rule refuses is readable.
+    let (number, first, second) = match answer.number {
+        1..=8 => (answer.number, answer.first, answer.second),
+        _ => (0, 0, 0),
+    };
+    let sum = table
+        .iter()
+        .fold(0, |sum: u64, &word| (sum * 31 + u64::from(word)) % 4_294_967_291);
+    let (file, start, end) = located(instance, plan, &answer);
+    format!("{number} {first} {second} {sum} {file} {start} {end}")
+}
+
+/// 0 for the instance and 1 for the plan, and from where to where the bad line stands there.
+fn located(instance: &[u8], plan: &[u8], answer: &Answer) -> (u32, usize, usize) {
+    let (file, bytes) = match answer.number {
+        verdict::INSTANCE_FORM | verdict::INSTANCE_RANGE => (0, instance),
+        verdict::PLAN_FORM | verdict::PLAN_RANGE => (1, plan),
+        _ => return (0, instance.len(), instance.len()),
+    };
+    match text::nth_line(bytes, answer.first) {
+        Some(line) => {
+            let start = line.as_ptr() as usize - bytes.as_ptr() as usize;
+            (file, start, start + line.len())
+        }
+        None => (0, instance.len(), instance.len()),
+    }
+}
