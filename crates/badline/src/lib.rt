@@ -11,7 +11,7 @@ pub enum LineFound {
 }
 
 // A line of a file, counted from 1 and without its byte 10. An unended last line is there too.
-pub fn find_line(file: &[u8], line: u32) -> LineFound
+fn find_line(file: &[u8], line: u32) -> LineFound
     ensures { λ r. ⌜ spanOf r ≡ lineSpan line 0 (now (file .entry)) ⌝ }
 {
     if line == 0 {
@@ -38,7 +38,7 @@ pub struct BadLine {
 }
 
 // The line's place; the empty one at the instance's end where the line is not there.
-pub fn place_of(found: LineFound, plan: bool, fallback: usize) -> BadLine
+fn place_of(found: LineFound, plan: bool, fallback: usize) -> BadLine
     ensures { λ r. ⌜ partOf r ≡ placeOr found plan fallback ⌝ }
 {
     match found {

@@ -31,7 +31,7 @@ fn one_below(height: u32) -> u32
 }
 
 // Whether an item's fields are in range. Width, nesting height and latest day depend on other fields.
-pub fn item_in_range(fields: &[u32]) -> bool
+fn item_in_range(fields: &[u32]) -> bool
     requires { ⌜ length (now fields) ≡ 16 ⌝ }
     ensures { λ r. ⌜ r ≡ allWithin (itemRanges (now (fields .entry))) (now (fields .entry)) ⌝ }
 {
@@ -61,7 +61,7 @@ pub fn item_in_range(fields: &[u32]) -> bool
 }
 
 // An item's line.
-pub fn read_item(file: &[u8], p: Progress, part: &mut [u32]) -> Progress
+fn read_item(file: &[u8], p: Progress, part: &mut [u32]) -> Progress
     requires { ⌜ Sound (now file) p × (length (now part) ≡ 16) ⌝ }
     ensures { λ r. ⌜ ReadInto (now (file .entry)) (line itemLine) (λ ns. ns) p r (now (part .exit)) ⌝ }
 {
@@ -71,7 +71,7 @@ pub fn read_item(file: &[u8], p: Progress, part: &mut [u32]) -> Progress
 }
 
 // The items one after another.
-pub fn read_items(file: &[u8], p: Progress, count: usize, part: &mut [u32]) -> Progress
+fn read_items(file: &[u8], p: Progress, count: usize, part: &mut [u32]) -> Progress
     requires { ⌜ Sound (now file) p × (16 * count ≤ length (now part)) ⌝ }
     ensures { λ r. ⌜ ReadInto (now (file .entry)) (times count (line itemLine)) (rows (length (now (part .entry))) (λ ns. ns)) p r (now (part .exit)) ⌝ }
 {
@@ -96,7 +96,7 @@ pub struct Head {
 }
 
 // The five lines that the file begins with.
-pub fn read_head(limits: Limits, file: &[u8], p: Progress, part: &mut [u32]) -> Head
+fn read_head(limits: Limits, file: &[u8], p: Progress, part: &mut [u32]) -> Head
     requires { ⌜ Bounded limits × Sound (now file) p × (length (now part) ≡ 16) ⌝ }
     ensures { λ r. ⌜ HeadRead limits (now (file .entry)) p r (now (part .exit)) ⌝ }
 {

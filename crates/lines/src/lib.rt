@@ -60,7 +60,7 @@ pub fn all_between(words: &[u32], low: u32, high: u32) -> bool
 }
 
 // Whether the word is listed.
-pub fn is_listed(words: &[u32], word: u32) -> bool
+fn is_listed(words: &[u32], word: u32) -> bool
     ensures { λ r. ⌜ r ≡ listed word (now (words .entry)) ⌝ }
 {
     let mut i = 0;
@@ -74,7 +74,7 @@ pub fn is_listed(words: &[u32], word: u32) -> bool
 }
 
 // Whether no word is listed twice.
-pub fn are_distinct(words: &[u32]) -> bool
+fn are_distinct(words: &[u32]) -> bool
     ensures { λ r. ⌜ r ≡ distinct (now (words .entry)) ⌝ }
 {
     let mut i = 0;
@@ -89,7 +89,7 @@ pub fn are_distinct(words: &[u32]) -> bool
 }
 
 // Whether the words are distinct identifiers.
-pub fn are_identifiers(words: &[u32]) -> bool
+fn are_identifiers(words: &[u32]) -> bool
     ensures { λ r. ⌜ r ≡ (all (between 1 65535) (now (words .entry)) && distinct (now (words .entry))) ⌝ }
 {
     if all_between(words, 1, 65535) {

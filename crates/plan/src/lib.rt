@@ -22,7 +22,7 @@ use meaning::Limits;
 use table::clear;
 
 // Whether one of the stacks in the first rows has this number.
-pub fn is_taken(part: &[u32], rows: usize, number: u32) -> bool
+fn is_taken(part: &[u32], rows: usize, number: u32) -> bool
     requires { ⌜ 8 * rows ≤ length (now part) ⌝ }
     ensures { λ r. ⌜ r ≡ listed number (rowNumbers rows (now (part .entry))) ⌝ }
 {
@@ -37,7 +37,7 @@ pub fn is_taken(part: &[u32], rows: usize, number: u32) -> bool
 }
 
 // Whether the fields of a stack's line are in range for so many trucks.
-pub fn stack_in_range(fields: &[u32], trucks: u32) -> bool
+fn stack_in_range(fields: &[u32], trucks: u32) -> bool
     requires { ⌜ length (now fields) ≡ 6 ⌝ }
     ensures { λ r. ⌜ r ≡ allWithin (stackRanges trucks) (now (fields .entry)) ⌝ }
 {
@@ -47,7 +47,7 @@ pub fn stack_in_range(fields: &[u32], trucks: u32) -> bool
 }
 
 // The k-th `stack=` line, into the first six words of its row. Its number is to differ from those of the rows before.
-pub fn read_stack_row(file: &[u8], p: Progress, trucks: u32, k: usize, part: &mut [u32]) -> Progress
+fn read_stack_row(file: &[u8], p: Progress, trucks: u32, k: usize, part: &mut [u32]) -> Progress
     requires { ⌜ Sound (now file) p × (trucks < 4294967295) × (8 * k + 8 ≤ length (now part)) ⌝ }
     ensures { λ r. ⌜ ReadInto (now (file .entry)) (line (stackLine trucks (rowNumbers k (now (part .entry))))) (λ fields. spliced (8 * k) fields (now (part .entry))) p r (now (part .exit)) ⌝ }
 {
@@ -59,7 +59,7 @@ pub fn read_stack_row(file: &[u8], p: Progress, trucks: u32, k: usize, part: &mu
 }
 
 // The same words, one after another.
-pub fn copy_words(from: &[u32], to: &mut [u32])
+fn copy_words(from: &[u32], to: &mut [u32])
     requires { ⌜ length (now from) ≡ length (now to) ⌝ }
     ensures { λ _. ⌜ now (to .exit) ≡ now (from .entry) ⌝ }
 {
@@ -71,7 +71,7 @@ pub fn copy_words(from: &[u32], to: &mut [u32])
 }
 
 // A `load=` line, behind the entries that the loads hold already. All together are to have room.
-pub fn read_load(file: &[u8], p: Progress, items: u32, held: usize, loads: &mut [u32]) -> Progress
+fn read_load(file: &[u8], p: Progress, items: u32, held: usize, loads: &mut [u32]) -> Progress
     requires { ⌜ Sound (now file) p × (items < 4294967295) × (held ≤ length (now loads)) × (length (now loads) ≤ 65536) ⌝ }
     ensures read { λ r. ⌜ ReadEntries (now (file .entry)) (line (loadLine (length (now (loads .entry))) items held)) (λ load. spliced held load (now (loads .entry))) p r (now (loads .exit)) ⌝ }
     ensures within { λ r. ⌜ held + entriesOf r ≤ length (now (loads .entry)) ⌝ }
@@ -87,7 +87,7 @@ pub fn read_load(file: &[u8], p: Progress, items: u32, held: usize, loads: &mut 
 }
 
 // The k-th stack: its line, its load, and where the load stands.
-pub fn read_stack(
+fn read_stack(
     limits: Limits,
     file: &[u8],
     p: Progress,
@@ -110,7 +110,7 @@ pub fn read_stack(
 }
 
 // So many stacks one after another.
-pub fn read_stacks(
+fn read_stacks(
     limits: Limits,
     file: &[u8],
     p: Progress,

@@ -19,6 +19,9 @@ use meaning::Answer;
 use meaning::Limits;
 use plan::read_plan;
 use table::clear;
+use table::fields::IL;
+use table::fields::IS;
+use table::fields::IW;
 use table::item_count;
 use table::item_field;
 use table::named_words;
@@ -29,14 +32,14 @@ use table::truck_count;
 // ---- code clash
 
 // The number of the first item with the code of item n.
-pub fn first_of_code(t: &[u32], limits: Limits, n: u32) -> u32
+fn first_of_code(t: &[u32], limits: Limits, n: u32) -> u32
     requires { ⌜ Filled limits (now t) × IsItem (instanceIn limits (now t)) n ⌝ }
     ensures { λ r. ⌜ (r ≡ firstOfCode (instanceIn limits (now (t .entry))) n) × IsItem (instanceIn limits (now (t .entry))) r ⌝ }
 {
-    let code = item_field(t, limits, n, 5);
+    let code = item_field(t, limits, n, IS);
     let mut k: u32 = 1;
     while k < n {
-        if item_field(t, limits, k, 5) == code {
+        if item_field(t, limits, k, IS) == code {
             return k;
         }
         k += 1;
@@ -45,12 +48,12 @@ pub fn first_of_code(t: &[u32], limits: Limits, n: u32) -> u32
 }
 
 // Whether two items have the same length and width.
-pub fn same_base(t: &[u32], limits: Limits, n: u32, k: u32) -> bool
+fn same_base(t: &[u32], limits: Limits, n: u32, k: u32) -> bool
     requires { ⌜ Filled limits (now t) × IsItem (instanceIn limits (now t)) n × IsItem (instanceIn limits (now t)) k ⌝ }
     ensures { λ r. ⌜ r ≡ sameBase (item (instanceIn limits (now (t .entry))) n) (item (instanceIn limits (now (t .entry))) k) ⌝ }
 {
-    if item_field(t, limits, n, 0) == item_field(t, limits, k, 0) {
-        item_field(t, limits, n, 1) == item_field(t, limits, k, 1)
+    if item_field(t, limits, n, IL) == item_field(t, limits, k, IL) {
+        item_field(t, limits, n, IW) == item_field(t, limits, k, IW)
     } else {
         false
     }
@@ -63,7 +66,7 @@ pub enum Clash {
 }
 
 // The clash of the lowest item. Items are asked from the last to the first, so the last clash found is the lowest.
-pub fn lowest_clash(t: &[u32], limits: Limits) -> Clash
+fn lowest_clash(t: &[u32], limits: Limits) -> Clash
     requires { ⌜ Filled limits (now t) ⌝ }
     ensures { λ r. ⌜ clashPlace r ≡ lowest (codeClashes (instanceIn limits (now (t .entry)))) ⌝ }
 {
@@ -103,7 +106,7 @@ fn line_number(lines: usize) -> u32
 }
 
 // The plan, once the instance is read and has no code clash.
-pub fn fill_plan(limits: Limits, plan: &[u8], words: &mut [u32]) -> FilesRead
+fn fill_plan(limits: Limits, plan: &[u8], words: &mut [u32]) -> FilesRead
     requires { ⌜ HoldsInstance limits (now words) × (length (now words) ≡ named limits) × (length (now plan) ≤ limits .bytes) ⌝ }
     ensures { λ r. ⌜ IsFilled limits (afterPlan (instanceIn limits (now (words .entry))) (wholeFile (planLines limits (instanceIn limits (now (words .entry)))) (now (plan .entry)))) r (now (words .exit)) ⌝ }
 {
@@ -121,7 +124,7 @@ pub fn fill_plan(limits: Limits, plan: &[u8], words: &mut [u32]) -> FilesRead
 }
 
 // A code clash, or else the plan.
-pub fn fill_after_instance(limits: Limits, plan: &[u8], words: &mut [u32]) -> FilesRead
+fn fill_after_instance(limits: Limits, plan: &[u8], words: &mut [u32]) -> FilesRead
     requires { ⌜ HoldsInstance limits (now words) × (length (now words) ≡ named limits) × (length (now plan) ≤ limits .bytes) ⌝ }
     ensures { λ r. ⌜ IsFilled limits (afterClash limits (instanceIn limits (now (words .entry))) (now (plan .entry)) (lowest (codeClashes (instanceIn limits (now (words .entry)))))) r (now (words .exit)) ⌝ }
 {
@@ -132,7 +135,7 @@ pub fn fill_after_instance(limits: Limits, plan: &[u8], words: &mut [u32]) -> Fi
 }
 
 // The instance, then what depends on it.
-pub fn fill(limits: Limits, instance: &[u8], plan: &[u8], words: &mut [u32]) -> FilesRead
+fn fill(limits: Limits, instance: &[u8], plan: &[u8], words: &mut [u32]) -> FilesRead
     requires { ⌜ Bounded limits × (length (now words) ≡ named limits) × (length (now instance) ≤ limits .bytes) × (length (now plan) ≤ limits .bytes) ⌝ }
     ensures { λ r. ⌜ IsFilled limits (afterInstance limits (now (plan .entry)) (wholeFile (instanceLines limits) (now (instance .entry)))) r (now (words .exit)) ⌝ }
 {
@@ -181,7 +184,7 @@ pub fn answer_to(r: FilesRead) -> Answer
 // ---- the reading call
 
 // Whether nothing was refused.
-pub fn is_readable(r: FilesRead) -> bool
+fn is_readable(r: FilesRead) -> bool
     ensures { λ b. ⌜ b ≡ readableBy r ⌝ }
 {
     match r {
@@ -191,7 +194,7 @@ pub fn is_readable(r: FilesRead) -> bool
 }
 
 // Reads both files into the named words, which are zero after a refusal.
-pub fn read_named(limits: Limits, instance: &[u8], plan: &[u8], words: &mut [u32]) -> FilesRead
+fn read_named(limits: Limits, instance: &[u8], plan: &[u8], words: &mut [u32]) -> FilesRead
     requires { ⌜ Bounded limits × (length (now words) ≡ named limits) ⌝ }
     ensures { λ r. ⌜ IsNamed limits (readFiles limits (now (instance .entry)) (now (plan .entry))) r (now (words .exit)) ⌝ }
 {

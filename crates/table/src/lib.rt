@@ -7,7 +7,10 @@ ghost use Rattle.meaning.specs.Limits.{small, trucksAt, stacksAt, loadsAt, name
 ghost use Rattle.meaning.specs.Model.{item, truckNumbered};
 ghost use Rattle.meaning.specs.Table.{instanceIn, stacksIn};
 ghost use Rattle.table.specs.Filled.{Bounded, Filled, stackAt, IsItem, IsTruck, docksOf, itemMost, truckMost, stackMost};
+use fields::TRUCK;
 use meaning::Limits;
+
+pub mod fields;
 
 // ---- where the parts of the table begin
 
@@ -226,7 +229,7 @@ pub fn stack_truck(t: &[u32], limits: Limits, s: usize) -> u32
     requires { ⌜ Filled limits (now t) × (s < length (stacksIn limits (now t))) ⌝ }
     ensures { λ r. ⌜ (r ≡ getD (stackAt (stacksIn limits (now (t .entry))) s .fields) 1 0) × IsTruck (instanceIn limits (now (t .entry))) r ⌝ }
 {
-    stack_field(t, limits, s, 1)
+    stack_field(t, limits, s, TRUCK)
 }
 
 // How many items a stack has.

@@ -6,8 +6,8 @@ use Prim.Native.Nat.{ℕ, suc, _+_, _-_, _*_, _≤_, _<_}
 use native.Mathlib.Nat.{sub-zero, mul-zero, mul-add}
 use native.Mathlib.Omega.{arith}
 use borrow.Rule.Slice.PartMut.{putMid}
-use lib.ListN.{length, take, drop, replicate, length-append, length-take, length-drop, length-replicate, replicate-append-replicate}
-use lib.Seq.{take-at, drop-at}
+use lib.ListN.{length, take, drop, replicate, length-append, length-take, length-drop, length-replicate, replicate-append-replicate, drop-of-length-le}
+use lib.Seq.{take-at, drop-at, take-all}
 use Rattle.meaning.specs.Lists.{padded}
 use Rattle.meaning.specs.Reader.{Reader, onward, times}
 use Rattle.lines.specs.declared.Progress.{Progress}
@@ -28,6 +28,13 @@ pub record Front (size at : ℕ) (ws out : List ℕ) : Type 0 where
 -- a cleared part
 pub front-clear : (size : ℕ) (out : List ℕ) → out ≡ replicate size 0 → Front size 0 [] out
 front-clear size out e = record { wide = refl; stands = rw (sub-zero size) e }
+
+-- a part that was lent whole to be cleared and came back
+pub front-cleared : (size : ℕ) (out zeros : List ℕ) → length out ≡ size → zeros ≡ replicate (length (take size (drop 0 out))) 0
+    → Front size 0 [] (putMid 0 size out zeros)
+front-cleared size out zeros long e =
+    let whole : length out ≤ size = omega arith in
+    front-clear size (putMid 0 size out zeros) (rw (drop-of-length-le out whole, append-nil, e, take-all size out whole, long) refl)
 
 module _ {size at : ℕ} {ws out : List ℕ} (f : Front size at ws out) where
   pub front-length : at ≤ size → length out ≡ size

@@ -15,7 +15,7 @@ use lines::row_line;
 use table::clear;
 
 // A line of docks for each of the suppliers: their counts, then eight words for each.
-pub fn read_docks(file: &[u8], p: Progress, suppliers: usize, part: &mut [u32]) -> Progress
+fn read_docks(file: &[u8], p: Progress, suppliers: usize, part: &mut [u32]) -> Progress
     requires { ⌜ Sound (now file) p × (suppliers ≤ 8) × (length (now part) ≡ 72) ⌝ }
     ensures { λ r. ⌜ ReadInto (now (file .entry)) (times suppliers (line docksLine)) dockWords p r (now (part .exit)) ⌝ }
 {
@@ -32,7 +32,7 @@ pub fn read_docks(file: &[u8], p: Progress, suppliers: usize, part: &mut [u32]) 
 }
 
 // The truck's own line.
-pub fn read_truck_row(file: &[u8], p: Progress, part: &mut [u32]) -> Progress
+fn read_truck_row(file: &[u8], p: Progress, part: &mut [u32]) -> Progress
     requires { ⌜ Sound (now file) p × (length (now part) ≡ 20) ⌝ }
     ensures { λ r. ⌜ ReadInto (now (file .entry)) (line truckLine) (λ ns. ns) p r (now (part .exit)) ⌝ }
 {
@@ -63,11 +63,11 @@ pub fn read_truck_row(file: &[u8], p: Progress, part: &mut [u32]) -> Progress
 }
 
 // All lines of a truck, into its 160 words.
-pub fn read_truck(file: &[u8], p: Progress, part: &mut [u32]) -> Progress
+fn read_truck(file: &[u8], p: Progress, part: &mut [u32]) -> Progress
     requires { ⌜ Sound (now file) p × (length (now part) ≡ 160) ⌝ }
     ensures { λ r. ⌜ ReadInto (now (file .entry)) truckLines truckWords p r (now (part .exit)) ⌝ }
 {
-    clear(part);
+    clear(&mut part[0..160]);
     let row = read_truck_row(file, p, &mut part[0..20]);
     let products = counted_line(file, row, b"products=", &mut part[20..53]);
     let suppliers = counted_line(file, products, b"suppliers=", &mut part[53..62]);

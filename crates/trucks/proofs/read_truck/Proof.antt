@@ -1,11 +1,11 @@
 -- `trucks::read_truck` meets its contract: the five parts come back one behind the other.
-use mathlib.Core.Path.{_≡_, refl, sym, ap, _∙_}
+use mathlib.Core.Path.{_≡_, refl, sym, _∙_}
 use mathlib.Core.List.{List}
 use Prim.Native.Nat.{ℕ, _+_, _≤_}
 use native.Mathlib.Omega.{arith}
 use borrow.Author.Needs.{needs}
-use lib.ListN.{length, take, drop, replicate}
-use Rattle.trucks.proofs.Repeat.{Front, front-clear, front-length, front-lent, front-back}
+use lib.ListN.{length, take, drop}
+use Rattle.trucks.proofs.Repeat.{Front, front-cleared, front-length, front-lent, front-back}
 use Rattle.trucks.proofs.Entries.{entries-counted}
 use Rattle.trucks.proofs.Truck.{truck-read}
 use Rattle.trucks.proofs.read_truck.Statement.{statement}
@@ -20,7 +20,9 @@ abbrev behind : {at : ℕ} (u : Upto at) (k : ℕ) (run : List ℕ) → at + k �
 behind u k run room kept = (_, _, front-back (u .2) k run room kept)
 
 abbrev after-clear : tie.After-clear → Upto 0
-after-clear c = (_, _, front-clear 160 (c .clear .last .0) (c .clear .ensures ∙ ap (λ (n : ℕ). replicate n 0) (c .before .before .before .before .pre .1)))
+after-clear c =
+    let start = c .before .before .before .before in
+    (_, _, front-cleared 160 (start .args .part .now) (c .clear .last .0) (start .pre .1) (c .clear .ensures))
 
 abbrev after-row : tie.After-read-truck-row → Upto 20
 after-row c = behind (after-clear (c .before .before .before .before)) 20 (c .read-truck-row .last .1 .1 .0) (omega arith) (c .read-truck-row .kept .1 .1 .0)
@@ -40,6 +42,15 @@ after-docks c =
 abbrev after-plant-docks : tie.After-counted-line3 → Upto 143
 after-plant-docks c =
     behind (after-docks (c .before .before .before .before .before)) 9 (c .counted-line3 .last .1 .1 .1 .0) (omega arith) (c .counted-line3 .kept .1 .1 .1 .0)
+
+sub-clear : tie.Need-sub-clear
+sub-clear c = search needs
+
+part-clear-start : tie.Need-part-clear-start
+part-clear-start c = search needs
+
+part-clear-end : tie.Need-part-clear-end
+part-clear-end c = search needs
 
 clear-requires : tie.Need-clear-requires
 clear-requires c κs = search needs
@@ -154,6 +165,9 @@ pub read-truck-spec : {M : Type 1} → statement M
 read-truck-spec =
     tie.close
     (tie.spec
+    sub-clear
+    part-clear-start
+    part-clear-end
     clear-requires
     sub-read-truck-row
     part-read-truck-row-start
