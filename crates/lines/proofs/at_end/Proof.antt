@@ -1,4 +1,8 @@
 -- Each case of the answer by itself.
+use mathlib.Core.Path.{_≡_}
+use mathlib.Core.Bool.{true, false}
+use lib.Dec.{ltb}
+use lib.ListN.{length}
 use borrow.Author.Needs.{needs}
 use borrow.Author.Tests.{lt-ltb, le-ltb}
 use Rattle.lines.proofs.at_end.Statement.{statement}
@@ -14,10 +18,16 @@ enum-known-p-3 : tie.Need-enum-known-p-3
 enum-known-p-3 c = search needs
 
 returns : tie.Need-returns
-returns c = rw (c .before .before .p .given .1, lt-ltb _ _ (c .if1 .taken))
+returns c =
+    let a = c .before .before .before .before .args in
+    let more : ltb (c .before .before .p .given .0 .0) (length (a .file .now)) ≡ true = lt-ltb _ _ (c .if1 .taken) in
+    rw (c .before .before .p .given .1, more)
 
 returns-2 : tie.Need-returns-2
-returns-2 c = rw (c .before .before .p .given .1, le-ltb _ _ (c .if1 .left))
+returns-2 c =
+    let a = c .before .before .before .before .args in
+    let none : ltb (c .before .before .p .given .0 .0) (length (a .file .now)) ≡ false = le-ltb _ _ (c .if1 .left) in
+    rw (c .before .before .p .given .1, none)
 
 returns-3 : tie.Need-returns-3
 returns-3 c = rw (c .before .p2 .given .1)
