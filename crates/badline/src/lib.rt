@@ -69,7 +69,8 @@ pub fn locate(instance: &[u8], plan: &[u8], number: u32, line: u32) -> BadLine
 
 // The bad line of a verdict, as a part of the file that it stands in.
 pub fn bad_line<'a>(instance: &'a [u8], plan: &'a [u8], number: u32, line: u32) -> &'a [u8]
-    ensures { λ r. ⌜ now r ≡ partBytes (now (instance .entry)) (now (plan .entry)) (handedBack (now (instance .entry)) (now (plan .entry)) number line) ⌝ }
+    ensures { λ r. ⌜ now r ≡ partBytes (now (instance .entry)) (now (plan .entry))
+        (handedBack (now (instance .entry)) (now (plan .entry)) number line) ⌝ }
 {
     let place = locate(instance, plan, number, line);
     let start = place.start;

@@ -18,6 +18,16 @@ use lines::number_line;
 use lines::stored_line;
 use meaning::Limits;
 use table::clear;
+use table::fields::IDE;
+use table::fields::IH;
+use table::fields::IL;
+use table::layout::EXTRA;
+use table::layout::HEAD_WORDS;
+use table::layout::INVENTORY;
+use table::layout::ITEM_COUNT;
+use table::layout::ITEM_WORDS;
+use table::layout::TRANSPORT;
+use table::layout::TRUCK_COUNT;
 use table::trucks_at;
 use trucks::read_trucks;
 
@@ -35,9 +45,9 @@ fn item_in_range(fields: &[u32]) -> bool
     requires { ⌜ length (now fields) ≡ 16 ⌝ }
     ensures { λ r. ⌜ r ≡ allWithin (itemRanges (now (fields .entry))) (now (fields .entry)) ⌝ }
 {
-    let length = fields[0];
-    let nesting = one_below(fields[2]);
-    let earliest = fields[9];
+    let length = fields[IL];
+    let nesting = one_below(fields[IH]);
+    let earliest = fields[IDE];
     let lows: [u32; 16] = [1, 1, 1, 0, 1, 1, 1, 1, 0, 0, earliest, 1, 1, 1, 1, 0];
     let highs: [u32; 16] = [
         20000, // IL
@@ -65,7 +75,7 @@ fn read_item(file: &[u8], p: Progress, part: &mut [u32]) -> Progress
     requires { ⌜ Sound (now file) p × (length (now part) ≡ 16) ⌝ }
     ensures { λ r. ⌜ ReadInto (now (file .entry)) (line itemLine) (λ ns. ns) p r (now (part .exit)) ⌝ }
 {
-    let stored = stored_line(file, p, b"item=", 16, part);
+    let stored = stored_line(file, p, b"item=", ITEM_WORDS, part);
     let in_range = item_in_range(part);
     judged(file, stored, in_range)
 }
@@ -73,14 +83,15 @@ fn read_item(file: &[u8], p: Progress, part: &mut [u32]) -> Progress
 // The items one after another.
 fn read_items(file: &[u8], p: Progress, count: usize, part: &mut [u32]) -> Progress
     requires { ⌜ Sound (now file) p × (16 * count ≤ length (now part)) ⌝ }
-    ensures { λ r. ⌜ ReadInto (now (file .entry)) (times count (line itemLine)) (rows (length (now (part .entry))) (λ ns. ns)) p r (now (part .exit)) ⌝ }
+    ensures { λ r. ⌜ ReadInto (now (file .entry)) (times count (line itemLine)) (rows (length (now (part .entry))) (λ ns. ns)) p r
+        (now (part .exit)) ⌝ }
 {
     clear(part);
     let mut q = p;
     let mut k: usize = 0;
     while k < count {
-        let first = 16 * k;
-        q = read_item(file, q, &mut part[first..first + 16]);
+        let first = ITEM_WORDS * k;
+        q = read_item(file, q, &mut part[first..first + ITEM_WORDS]);
         k += 1;
     }
     q
@@ -110,11 +121,11 @@ fn read_head(limits: Limits, file: &[u8], p: Progress, part: &mut [u32]) -> Head
     let items = number_line(file, p, b"items=", 1, limits.items as u32);
     let p = items.progress;
     let trucks = number_line(file, p, b"trucks=", 1, limits.trucks as u32);
-    part[0] = transport.value;
-    part[1] = inventory.value;
-    part[2] = extra.value;
-    part[3] = items.value;
-    part[4] = trucks.value;
+    part[TRANSPORT] = transport.value;
+    part[INVENTORY] = inventory.value;
+    part[EXTRA] = extra.value;
+    part[ITEM_COUNT] = items.value;
+    part[TRUCK_COUNT] = trucks.value;
     let progress = trucks.progress;
     Head {
         progress: progress,
@@ -129,9 +140,19 @@ pub fn read_instance(limits: Limits, file: &[u8], part: &mut [u32]) -> Progress
     ensures { λ r. ⌜ ReadInto (now (file .entry)) (instanceFile limits) (instanceWords limits) (Next 0 0 0) r (now (part .exit)) ⌝ }
 {
     let trucks_from = trucks_at(limits);
-    let head = read_head(limits, file, Progress::Next(0, 0, 0), &mut part[0..16]);
+    let head = read_head(
+        limits,
+        file,
+        Progress::Next(0, 0, 0),
+        &mut part[0..HEAD_WORDS],
+    );
     let progress = head.progress;
-    let items = read_items(file, progress, head.items, &mut part[16..trucks_from]);
+    let items = read_items(
+        file,
+        progress,
+        head.items,
+        &mut part[HEAD_WORDS..trucks_from],
+    );
     let trucks = read_trucks(file, items, head.trucks, &mut part[trucks_from..]);
     at_end(file, trucks)
 }

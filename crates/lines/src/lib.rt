@@ -115,7 +115,8 @@ pub fn entries(p: Progress) -> usize
 // Stores the numbers of the next line. Their ranges are not judged yet, and the line is not yet passed.
 pub fn stored_line(file: &[u8], p: Progress, key: &[u8], least: usize, out: &mut [u32]) -> Progress
     requires { ⌜ Sound (now file) p ⌝ }
-    ensures says { λ r. ⌜ ((f : Form) → bytes (f .key) ≡ now (key .entry) → f .least ≡ least → f .most ≡ length (now (out .entry)) → RefusesLargest f → unjudged f (now (file .entry)) (now (out .exit)) r ≡ resumed (now (file .entry)) p (line f)) ⌝ }
+    ensures says { λ r. ⌜ ((f : Form) → bytes (f .key) ≡ now (key .entry) → f .least ≡ least → f .most ≡ length (now (out .entry))
+        → RefusesLargest f → unjudged f (now (file .entry)) (now (out .exit)) r ≡ resumed (now (file .entry)) p (line f)) ⌝ }
     ensures unpassed { λ r. ⌜ Unpassed (now (file .entry)) r ⌝ }
     ensures stored { λ r. ⌜ Stored least (now (out .entry)) (now (out .exit)) r ⌝ }
 {
@@ -173,8 +174,11 @@ pub fn row_line(
     highs: &[u32],
     out: &mut [u32],
 ) -> Progress
-    requires { ⌜ Sound (now file) p × (length (now lows) ≡ length (now out)) × (length (now highs) ≡ length (now out)) × Every (λ h. h < 4294967295) (now highs) ⌝ }
-    ensures { λ r. ⌜ ((k : Key) → bytes k ≡ now (key .entry) → ReadEntries (now (file .entry)) (line (rowLine k (ranges (now (lows .entry)) (now (highs .entry))))) (λ ns. ns) p r (now (out .exit))) ⌝ }
+    requires { ⌜ Sound (now file) p × (length (now lows) ≡ length (now out)) × (length (now highs) ≡ length (now out))
+        × Every (λ h. h < 4294967295) (now highs) ⌝ }
+    ensures { λ r. ⌜ ((k : Key) → bytes k ≡ now (key .entry)
+        → ReadEntries (now (file .entry)) (line (rowLine k (ranges (now (lows .entry)) (now (highs .entry))))) (λ ns. ns) p r
+        (now (out .exit))) ⌝ }
 {
     let stored = stored_line(file, p, key, out.len(), out);
     let count = entries(stored);
@@ -185,7 +189,9 @@ pub fn row_line(
 // A line of distinct identifiers, at most as many as there is room for, with zeros behind them.
 pub fn identifiers_line(file: &[u8], p: Progress, key: &[u8], out: &mut [u32]) -> Progress
     requires { ⌜ Sound (now file) p ⌝ }
-    ensures { λ r. ⌜ ((k : Key) → bytes k ≡ now (key .entry) → ReadEntries (now (file .entry)) (line (identifiersLine k (length (now (out .entry))))) (padded (length (now (out .entry)))) p r (now (out .exit))) ⌝ }
+    ensures { λ r. ⌜ ((k : Key) → bytes k ≡ now (key .entry)
+        → ReadEntries (now (file .entry)) (line (identifiersLine k (length (now (out .entry))))) (padded (length (now (out .entry)))) p r
+        (now (out .exit))) ⌝ }
 {
     clear(out);
     let stored = stored_line(file, p, key, 1, out);
@@ -197,7 +203,9 @@ pub fn identifiers_line(file: &[u8], p: Progress, key: &[u8], out: &mut [u32]) -
 // The same behind the number of entries.
 pub fn counted_line(file: &[u8], p: Progress, key: &[u8], out: &mut [u32]) -> Progress
     requires { ⌜ Sound (now file) p × (1 ≤ length (now out)) × (length (now out) ≤ 65) ⌝ }
-    ensures { λ r. ⌜ ((k : Key) → bytes k ≡ now (key .entry) → ReadEntries (now (file .entry)) (line (identifiersLine k (length (now (out .entry)) - 1))) (countedWords (length (now (out .entry)) - 1)) p r (now (out .exit))) ⌝ }
+    ensures { λ r. ⌜ ((k : Key) → bytes k ≡ now (key .entry)
+        → ReadEntries (now (file .entry)) (line (identifiersLine k (length (now (out .entry)) - 1)))
+        (countedWords (length (now (out .entry)) - 1)) p r (now (out .exit))) ⌝ }
 {
     let r = identifiers_line(file, p, key, &mut out[1..]);
     out[0] = entries(r) as u32;
@@ -213,7 +221,8 @@ pub struct NumberRead {
 // A line with one number.
 pub fn number_line(file: &[u8], p: Progress, key: &[u8], low: u32, high: u32) -> NumberRead
     requires { ⌜ Sound (now file) p × (high < 4294967295) ⌝ }
-    ensures says { λ r. ⌜ ((k : Key) → bytes k ≡ now (key .entry) → reached (now (file .entry)) (r .value) (r .progress) ≡ resumed (now (file .entry)) p (numberLine k (low to high))) ⌝ }
+    ensures says { λ r. ⌜ ((k : Key) → bytes k ≡ now (key .entry)
+        → reached (now (file .entry)) (r .value) (r .progress) ≡ resumed (now (file .entry)) p (numberLine k (low to high))) ⌝ }
     ensures sound { λ r. ⌜ Sound (now (file .entry)) (r .progress) × (r .value ≤ high) ⌝ }
 {
     let lows = [low];

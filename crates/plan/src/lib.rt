@@ -20,6 +20,9 @@ use lines::number_line;
 use lines::stored_line;
 use meaning::Limits;
 use table::clear;
+use table::layout::LOAD_COUNT;
+use table::layout::LOAD_FIRST;
+use table::layout::STACK_WORDS;
 
 // Whether one of the stacks in the first rows has this number.
 fn is_taken(part: &[u32], rows: usize, number: u32) -> bool
@@ -29,7 +32,7 @@ fn is_taken(part: &[u32], rows: usize, number: u32) -> bool
     let mut k = rows;
     while 0 < k {
         k -= 1;
-        if part[8 * k] == number {
+        if part[STACK_WORDS * k] == number {
             return true;
         }
     }
@@ -49,9 +52,10 @@ fn stack_in_range(fields: &[u32], trucks: u32) -> bool
 // The k-th `stack=` line, into the first six words of its row. Its number is to differ from those of the rows before.
 fn read_stack_row(file: &[u8], p: Progress, trucks: u32, k: usize, part: &mut [u32]) -> Progress
     requires { ⌜ Sound (now file) p × (trucks < 4294967295) × (8 * k + 8 ≤ length (now part)) ⌝ }
-    ensures { λ r. ⌜ ReadInto (now (file .entry)) (line (stackLine trucks (rowNumbers k (now (part .entry))))) (λ fields. spliced (8 * k) fields (now (part .entry))) p r (now (part .exit)) ⌝ }
+    ensures { λ r. ⌜ ReadInto (now (file .entry)) (line (stackLine trucks (rowNumbers k (now (part .entry)))))
+        (λ fields. spliced (8 * k) fields (now (part .entry))) p r (now (part .exit)) ⌝ }
 {
-    let row = 8 * k;
+    let row = STACK_WORDS * k;
     let stored = stored_line(file, p, b"stack=", 6, &mut part[row..row + 6]);
     let in_range = stack_in_range(&part[row..row + 6], trucks);
     let taken = is_taken(part, k, part[row]);
@@ -73,7 +77,8 @@ fn copy_words(from: &[u32], to: &mut [u32])
 // A `load=` line, behind the entries that the loads hold already. All together are to have room.
 fn read_load(file: &[u8], p: Progress, items: u32, held: usize, loads: &mut [u32]) -> Progress
     requires { ⌜ Sound (now file) p × (items < 4294967295) × (held ≤ length (now loads)) × (length (now loads) ≤ 65536) ⌝ }
-    ensures read { λ r. ⌜ ReadEntries (now (file .entry)) (line (loadLine (length (now (loads .entry))) items held)) (λ load. spliced held load (now (loads .entry))) p r (now (loads .exit)) ⌝ }
+    ensures read { λ r. ⌜ ReadEntries (now (file .entry)) (line (loadLine (length (now (loads .entry))) items held))
+        (λ load. spliced held load (now (loads .entry))) p r (now (loads .exit)) ⌝ }
     ensures within { λ r. ⌜ held + entriesOf r ≤ length (now (loads .entry)) ⌝ }
 {
     let mut load: [u32; 64] = [0; 64];
@@ -97,15 +102,16 @@ fn read_stack(
     held: usize,
     part: &mut [u32],
 ) -> Progress
-    requires { ⌜ Bounded limits × Sound (now file) p × (items < 4294967295) × (trucks < 4294967295) × (k < limits .stacks) × (held ≤ limits .loads) × (length (now part) ≡ 8 * limits .stacks + limits .loads) ⌝ }
+    requires { ⌜ Bounded limits × Sound (now file) p × (items < 4294967295) × (trucks < 4294967295) × (k < limits .stacks)
+        × (held ≤ limits .loads) × (length (now part) ≡ 8 * limits .stacks + limits .loads) ⌝ }
     ensures { λ r. ⌜ StackRead limits items trucks k held (now (file .entry)) p r (now (part .entry)) (now (part .exit)) ⌝ }
 {
-    let row = 8 * k;
-    let loads = 8 * limits.stacks;
+    let row = STACK_WORDS * k;
+    let loads = STACK_WORDS * limits.stacks;
     let q = read_stack_row(file, p, trucks, k, part);
     let r = read_load(file, q, items, held, &mut part[loads..]);
-    part[row + 6] = held as u32;
-    part[row + 7] = entries(r) as u32;
+    part[row + LOAD_FIRST] = held as u32;
+    part[row + LOAD_COUNT] = entries(r) as u32;
     r
 }
 
@@ -119,8 +125,10 @@ fn read_stacks(
     count: usize,
     part: &mut [u32],
 ) -> Progress
-    requires { ⌜ Bounded limits × Sound (now file) p × (items < 4294967295) × (trucks < 4294967295) × (count ≤ limits .stacks) × (length (now part) ≡ 8 * limits .stacks + limits .loads) ⌝ }
-    ensures { λ r. ⌜ ReadInto (now (file .entry)) (stackLines (limits .loads) items trucks count [] 0) (planWords limits) p r (now (part .exit)) ⌝ }
+    requires { ⌜ Bounded limits × Sound (now file) p × (items < 4294967295) × (trucks < 4294967295) × (count ≤ limits .stacks)
+        × (length (now part) ≡ 8 * limits .stacks + limits .loads) ⌝ }
+    ensures { λ r. ⌜ ReadInto (now (file .entry)) (stackLines (limits .loads) items trucks count [] 0) (planWords limits) p r
+        (now (part .exit)) ⌝ }
 {
     clear(part);
     let mut q = p;
@@ -142,7 +150,8 @@ pub struct PlanRead {
 
 // The plan file, for an instance of so many items and trucks, into the words from the stacks on.
 pub fn read_plan(limits: Limits, file: &[u8], items: u32, trucks: u32, part: &mut [u32]) -> PlanRead
-    requires { ⌜ Bounded limits × (items < 4294967295) × (trucks < 4294967295) × (length (now part) ≡ 8 * limits .stacks + limits .loads) ⌝ }
+    requires { ⌜ Bounded limits × (items < 4294967295) × (trucks < 4294967295)
+        × (length (now part) ≡ 8 * limits .stacks + limits .loads) ⌝ }
     ensures { λ r. ⌜ IsPlanRead limits items trucks (now (file .entry)) r (now (part .exit)) ⌝ }
 {
     let stacks = number_line(

@@ -24,6 +24,7 @@ use table::fields::IS;
 use table::fields::IW;
 use table::item_count;
 use table::item_field;
+use table::layout::STACK_COUNT;
 use table::named_words;
 use table::small_limits;
 use table::stacks_at;
@@ -108,13 +109,14 @@ fn line_number(lines: usize) -> u32
 // The plan, once the instance is read and has no code clash.
 fn fill_plan(limits: Limits, plan: &[u8], words: &mut [u32]) -> FilesRead
     requires { ⌜ HoldsInstance limits (now words) × (length (now words) ≡ named limits) × (length (now plan) ≤ limits .bytes) ⌝ }
-    ensures { λ r. ⌜ IsFilled limits (afterPlan (instanceIn limits (now (words .entry))) (wholeFile (planLines limits (instanceIn limits (now (words .entry)))) (now (plan .entry)))) r (now (words .exit)) ⌝ }
+    ensures { λ r. ⌜ IsFilled limits (afterPlan (instanceIn limits (now (words .entry)))
+        (wholeFile (planLines limits (instanceIn limits (now (words .entry)))) (now (plan .entry)))) r (now (words .exit)) ⌝ }
 {
     let items = item_count(words, limits);
     let trucks = truck_count(words, limits);
     let from = stacks_at(limits);
     let read = read_plan(limits, plan, items, trucks, &mut words[from..]);
-    words[5] = read.stacks;
+    words[STACK_COUNT] = read.stacks;
     let progress = read.progress;
     match progress {
         Progress::Next(_, _, _) => FilesRead::Readable,
@@ -126,7 +128,8 @@ fn fill_plan(limits: Limits, plan: &[u8], words: &mut [u32]) -> FilesRead
 // A code clash, or else the plan.
 fn fill_after_instance(limits: Limits, plan: &[u8], words: &mut [u32]) -> FilesRead
     requires { ⌜ HoldsInstance limits (now words) × (length (now words) ≡ named limits) × (length (now plan) ≤ limits .bytes) ⌝ }
-    ensures { λ r. ⌜ IsFilled limits (afterClash limits (instanceIn limits (now (words .entry))) (now (plan .entry)) (lowest (codeClashes (instanceIn limits (now (words .entry)))))) r (now (words .exit)) ⌝ }
+    ensures { λ r. ⌜ IsFilled limits (afterClash limits (instanceIn limits (now (words .entry))) (now (plan .entry))
+        (lowest (codeClashes (instanceIn limits (now (words .entry)))))) r (now (words .exit)) ⌝ }
 {
     match lowest_clash(words, limits) {
         Clash::Between(n, first) => FilesRead::CodeClash(n, first),
@@ -136,8 +139,10 @@ fn fill_after_instance(limits: Limits, plan: &[u8], words: &mut [u32]) -> FilesR
 
 // The instance, then what depends on it.
 fn fill(limits: Limits, instance: &[u8], plan: &[u8], words: &mut [u32]) -> FilesRead
-    requires { ⌜ Bounded limits × (length (now words) ≡ named limits) × (length (now instance) ≤ limits .bytes) × (length (now plan) ≤ limits .bytes) ⌝ }
-    ensures { λ r. ⌜ IsFilled limits (afterInstance limits (now (plan .entry)) (wholeFile (instanceLines limits) (now (instance .entry)))) r (now (words .exit)) ⌝ }
+    requires { ⌜ Bounded limits × (length (now words) ≡ named limits) × (length (now instance) ≤ limits .bytes)
+        × (length (now plan) ≤ limits .bytes) ⌝ }
+    ensures { λ r. ⌜ IsFilled limits (afterInstance limits (now (plan .entry)) (wholeFile (instanceLines limits) (now (instance .entry))))
+        r (now (words .exit)) ⌝ }
 {
     clear(words);
     let end = stacks_at(limits);

@@ -96,12 +96,10 @@ module _ {m : Limits} {t : List ℕ} (h : Filled m t) where
       few-suppliers : j ≤ 8
       few-suppliers = omega (arith, truck-in n k .suppliers .most)
 
-      few-docks : getD t (truckPlace m n + 61 + j) 0 ≤ 8
-      few-docks =
-          let e : truckPlace m n + 62 + (j - 1) ≡ truckPlace m n + 61 + j = omega arith in
-          rw e at (h .docks n (j - 1) k (omega (arith, few-suppliers)))
+      few-docks : getD t (truckPlace m n + 62 + (j - 1)) 0 ≤ 8
+      few-docks = h .docks n (j - 1) k (omega (arith, few-suppliers))
 
-      docks-words : docksOf (truckNumbered (instanceIn m t) n) j ≡ part (truckPlace m n + 62 + 8 * j) (getD t (truckPlace m n + 61 + j) 0) t
+      docks-words : docksOf (truckNumbered (instanceIn m t) n) j ≡ part (truckPlace m n + 70 + 8 * (j - 1)) (getD t (truckPlace m n + 62 + (j - 1)) 0) t
       docks-words =
           let base = truckPlace m n in
           let row = part base 160 t in
@@ -109,17 +107,17 @@ module _ {m : Limits} {t : List ℕ} (h : Filled m t) where
           let suppliers = list-words suppliers-behind in
           let size = ap length (suppliers .1) ∙ length-part (base + 53 + 1) (getD t (base + 53) 0) t (omega (arith, truck-room)) in
           let same = part-at base 160 53 t 0 (omega arith) in
-          let count : base + (62 + (j - 1)) ≡ base + 61 + j = omega arith in
-          let place : base + (70 + 8 * (j - 1)) ≡ base + 62 + 8 * j = omega arith in
+          let count : base + (62 + (j - 1)) ≡ base + 62 + (j - 1) = omega arith in
+          let place : base + (70 + 8 * (j - 1)) ≡ base + 70 + 8 * (j - 1) = omega arith in
           ap (λ (a : Truck). docksOf a j) (truck-row m t n k)
           ∙ docks-row row (j - 1) (length-part base 160 t truck-room) (omega arith) (omega arith)
           ∙ rw (part-at base 160 (62 + (j - 1)) t 0 (omega arith), part-part (70 + 8 * (j - 1)) 8 base 160 t (omega arith), count, place)
-          (take-take _ 8 (drop (base + 62 + 8 * j) t) few-docks)
+          (take-take _ 8 (drop (base + 70 + 8 * (j - 1)) t) few-docks)
 
-      pub docks-room : (base : ℕ) → base ≡ truckPlace m n → (j ≤ 8) × (getD t (base + 61 + j) 0 ≤ 8)
+      pub docks-room : (base : ℕ) → base ≡ truckPlace m n → (j ≤ 8) × (getD t (base + 62 + (j - 1)) 0 ≤ 8)
       docks-room base e = (few-suppliers, rw e few-docks)
 
-      pub docks-read : (base at size : ℕ) → base ≡ truckPlace m n → at ≡ base + 62 + 8 * j → size ≡ getD t (base + 61 + j) 0
+      pub docks-read : (base at size : ℕ) → base ≡ truckPlace m n → at ≡ base + 70 + 8 * (j - 1) → size ≡ getD t (base + 62 + (j - 1)) 0
           → (part at size t ≡ docksOf (truckNumbered (instanceIn m t) n) j) × (length (part at size t) ≤ 8)
       docks-read base at size e f c =
           let room = docks-room base e in

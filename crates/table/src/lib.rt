@@ -8,9 +8,27 @@ ghost use Rattle.meaning.specs.Model.{item, truckNumbered};
 ghost use Rattle.meaning.specs.Table.{instanceIn, stacksIn};
 ghost use Rattle.table.specs.Filled.{Bounded, Filled, stackAt, IsItem, IsTruck, docksOf, itemMost, truckMost, stackMost};
 use fields::TRUCK;
+use layout::DOCK_COUNTS;
+use layout::DOCKS;
+use layout::EXTRA;
+use layout::HEAD_WORDS;
+use layout::INVENTORY;
+use layout::ITEM_COUNT;
+use layout::ITEM_WORDS;
+use layout::LOAD_COUNT;
+use layout::LOAD_FIRST;
+use layout::PLANT_DOCKS;
+use layout::PRODUCTS;
+use layout::STACK_COUNT;
+use layout::STACK_WORDS;
+use layout::SUPPLIERS;
+use layout::TRANSPORT;
+use layout::TRUCK_COUNT;
+use layout::TRUCK_WORDS;
 use meaning::Limits;
 
 pub mod fields;
+pub mod layout;
 
 // ---- where the parts of the table begin
 
@@ -32,7 +50,7 @@ pub fn trucks_at(limits: Limits) -> usize
     requires { ⌜ Bounded limits ⌝ }
     ensures { λ r. ⌜ r ≡ trucksAt limits ⌝ }
 {
-    16 + 16 * limits.items
+    HEAD_WORDS + ITEM_WORDS * limits.items
 }
 
 // The first word of the stacks, behind the trucks.
@@ -40,7 +58,7 @@ pub fn stacks_at(limits: Limits) -> usize
     requires { ⌜ Bounded limits ⌝ }
     ensures { λ r. ⌜ r ≡ stacksAt limits ⌝ }
 {
-    trucks_at(limits) + 160 * limits.trucks
+    trucks_at(limits) + TRUCK_WORDS * limits.trucks
 }
 
 // The first word of the loads, behind the stacks.
@@ -48,7 +66,7 @@ pub fn loads_at(limits: Limits) -> usize
     requires { ⌜ Bounded limits ⌝ }
     ensures { λ r. ⌜ r ≡ loadsAt limits ⌝ }
 {
-    stacks_at(limits) + 8 * limits.stacks
+    stacks_at(limits) + STACK_WORDS * limits.stacks
 }
 
 // How many words are named.
@@ -84,7 +102,7 @@ pub fn transport_coefficient(t: &[u32], limits: Limits) -> u32
     requires { ⌜ Filled limits (now t) ⌝ }
     ensures { λ r. ⌜ (r ≡ instanceIn limits (now (t .entry)) .αT) × (r ≤ 1000) ⌝ }
 {
-    t[0]
+    t[TRANSPORT]
 }
 
 // The coefficient of the inventory cost.
@@ -92,7 +110,7 @@ pub fn inventory_coefficient(t: &[u32], limits: Limits) -> u32
     requires { ⌜ Filled limits (now t) ⌝ }
     ensures { λ r. ⌜ (r ≡ instanceIn limits (now (t .entry)) .αI) × (r ≤ 1000) ⌝ }
 {
-    t[1]
+    t[INVENTORY]
 }
 
 // The coefficient of an extra truck's cost, in thousandths.
@@ -100,7 +118,7 @@ pub fn extra_coefficient(t: &[u32], limits: Limits) -> u32
     requires { ⌜ Filled limits (now t) ⌝ }
     ensures { λ r. ⌜ (r ≡ instanceIn limits (now (t .entry)) .αE) × (r ≤ 1000) ⌝ }
 {
-    t[2]
+    t[EXTRA]
 }
 
 // How many items there are.
@@ -108,7 +126,7 @@ pub fn item_count(t: &[u32], limits: Limits) -> u32
     requires { ⌜ Filled limits (now t) ⌝ }
     ensures { λ r. ⌜ (r ≡ length (instanceIn limits (now (t .entry)) .items)) × (1 ≤ r) × (r ≤ limits .items) ⌝ }
 {
-    t[3]
+    t[ITEM_COUNT]
 }
 
 // How many trucks there are.
@@ -116,7 +134,7 @@ pub fn truck_count(t: &[u32], limits: Limits) -> u32
     requires { ⌜ Filled limits (now t) ⌝ }
     ensures { λ r. ⌜ (r ≡ length (instanceIn limits (now (t .entry)) .trucks)) × (1 ≤ r) × (r ≤ limits .trucks) ⌝ }
 {
-    t[4]
+    t[TRUCK_COUNT]
 }
 
 // How many stacks there are.
@@ -124,7 +142,7 @@ pub fn stack_count(t: &[u32], limits: Limits) -> usize
     requires { ⌜ Filled limits (now t) ⌝ }
     ensures { λ r. ⌜ (r ≡ length (stacksIn limits (now (t .entry)))) × (r ≤ limits .stacks) ⌝ }
 {
-    as_index(t[5])
+    as_index(t[STACK_COUNT])
 }
 
 // A field of an item's line.
@@ -132,7 +150,7 @@ pub fn item_field(t: &[u32], limits: Limits, n: u32, field: usize) -> u32
     requires { ⌜ Filled limits (now t) × IsItem (instanceIn limits (now t)) n × (field < 16) ⌝ }
     ensures { λ r. ⌜ (r ≡ getD (item (instanceIn limits (now (t .entry))) n) field 0) × (r ≤ itemMost field) ⌝ }
 {
-    let row = 16 * as_index(n);
+    let row = HEAD_WORDS + ITEM_WORDS * (as_index(n) - 1);
     t[row + field]
 }
 
@@ -141,7 +159,7 @@ fn truck_at(t: &[u32], limits: Limits, n: u32) -> usize
     requires { ⌜ Filled limits (now t) × IsTruck (instanceIn limits (now t)) n ⌝ }
     ensures { λ r. ⌜ (r ≡ trucksAt limits + 160 * (n - 1)) × (r + 160 ≤ length (now (t .entry))) ⌝ }
 {
-    trucks_at(limits) + 160 * (as_index(n) - 1)
+    trucks_at(limits) + TRUCK_WORDS * (as_index(n) - 1)
 }
 
 // A field of a truck's line.
@@ -169,7 +187,7 @@ pub fn products<'a>(t: &'a [u32], limits: Limits, n: u32) -> &'a [u32]
     ensures { λ r. ⌜ (now r ≡ truckNumbered (instanceIn limits (now (t .entry))) n .products) × (length (now r) ≤ 32) ⌝ }
 {
     let base = truck_at(t, limits, n);
-    counted(t, base + 20)
+    counted(t, base + PRODUCTS)
 }
 
 // The suppliers that a truck visits, in their loading order.
@@ -178,17 +196,19 @@ pub fn suppliers<'a>(t: &'a [u32], limits: Limits, n: u32) -> &'a [u32]
     ensures { λ r. ⌜ (now r ≡ truckNumbered (instanceIn limits (now (t .entry))) n .suppliers) × (length (now r) ≤ 8) ⌝ }
 {
     let base = truck_at(t, limits, n);
-    counted(t, base + 53)
+    counted(t, base + SUPPLIERS)
 }
 
 // The docks of a truck's supplier, who is given by the loading order.
 pub fn docks<'a>(t: &'a [u32], limits: Limits, n: u32, supplier: usize) -> &'a [u32]
-    requires { ⌜ Filled limits (now t) × IsTruck (instanceIn limits (now t)) n × (1 ≤ supplier) × (supplier ≤ length (truckNumbered (instanceIn limits (now t)) n .suppliers)) ⌝ }
+    requires { ⌜ Filled limits (now t) × IsTruck (instanceIn limits (now t)) n × (1 ≤ supplier)
+        × (supplier ≤ length (truckNumbered (instanceIn limits (now t)) n .suppliers)) ⌝ }
     ensures { λ r. ⌜ (now r ≡ docksOf (truckNumbered (instanceIn limits (now (t .entry))) n) supplier) × (length (now r) ≤ 8) ⌝ }
 {
     let base = truck_at(t, limits, n);
-    let first = base + 62 + 8 * supplier;
-    let end = first + as_index(t[base + 61 + supplier]);
+    let row = supplier - 1;
+    let first = base + DOCKS + 8 * row;
+    let end = first + as_index(t[base + DOCK_COUNTS + row]);
     &t[first..end]
 }
 
@@ -198,7 +218,7 @@ pub fn plant_docks<'a>(t: &'a [u32], limits: Limits, n: u32) -> &'a [u32]
     ensures { λ r. ⌜ (now r ≡ truckNumbered (instanceIn limits (now (t .entry))) n .plantDocks) × (length (now r) ≤ 8) ⌝ }
 {
     let base = truck_at(t, limits, n);
-    counted(t, base + 134)
+    counted(t, base + PLANT_DOCKS)
 }
 
 // The place of an identifier in its line, from 1, which is its loading order; 0 where it is not listed.
@@ -220,14 +240,15 @@ pub fn stack_field(t: &[u32], limits: Limits, s: usize, field: usize) -> u32
     requires { ⌜ Filled limits (now t) × (s < length (stacksIn limits (now t))) × (field < 6) ⌝ }
     ensures { λ r. ⌜ (r ≡ getD (stackAt (stacksIn limits (now (t .entry))) s .fields) field 0) × (r ≤ stackMost field) ⌝ }
 {
-    let row = stacks_at(limits) + 8 * s;
+    let row = stacks_at(limits) + STACK_WORDS * s;
     t[row + field]
 }
 
 // The number of the truck that a stack is on.
 pub fn stack_truck(t: &[u32], limits: Limits, s: usize) -> u32
     requires { ⌜ Filled limits (now t) × (s < length (stacksIn limits (now t))) ⌝ }
-    ensures { λ r. ⌜ (r ≡ getD (stackAt (stacksIn limits (now (t .entry))) s .fields) 1 0) × IsTruck (instanceIn limits (now (t .entry))) r ⌝ }
+    ensures { λ r. ⌜ (r ≡ getD (stackAt (stacksIn limits (now (t .entry))) s .fields) 1 0)
+        × IsTruck (instanceIn limits (now (t .entry))) r ⌝ }
 {
     stack_field(t, limits, s, TRUCK)
 }
@@ -237,22 +258,24 @@ pub fn load_count(t: &[u32], limits: Limits, s: usize) -> usize
     requires { ⌜ Filled limits (now t) × (s < length (stacksIn limits (now t))) ⌝ }
     ensures { λ r. ⌜ (r ≡ length (stackAt (stacksIn limits (now (t .entry))) s .load)) × (1 ≤ r) × (r ≤ 64) ⌝ }
 {
-    let row = stacks_at(limits) + 8 * s;
-    as_index(t[row + 7])
+    let row = stacks_at(limits) + STACK_WORDS * s;
+    as_index(t[row + LOAD_COUNT])
 }
 
 // Where a stack's load begins in the table.
 fn load_at(t: &[u32], limits: Limits, s: usize) -> usize
     requires { ⌜ Filled limits (now t) × (s < length (stacksIn limits (now t))) ⌝ }
-    ensures { λ r. ⌜ (r ≡ loadsAt limits + getD (now (t .entry)) (stacksAt limits + 8 * s + 6) 0) × (r + length (stackAt (stacksIn limits (now (t .entry))) s .load) ≤ length (now (t .entry))) ⌝ }
+    ensures { λ r. ⌜ (r ≡ loadsAt limits + getD (now (t .entry)) (stacksAt limits + 8 * s + 6) 0)
+        × (r + length (stackAt (stacksIn limits (now (t .entry))) s .load) ≤ length (now (t .entry))) ⌝ }
 {
-    let row = stacks_at(limits) + 8 * s;
-    loads_at(limits) + as_index(t[row + 6])
+    let row = stacks_at(limits) + STACK_WORDS * s;
+    loads_at(limits) + as_index(t[row + LOAD_FIRST])
 }
 
 // The number of an item of a stack, by its place in the load, from 0 at the bottom.
 pub fn load_entry(t: &[u32], limits: Limits, s: usize, j: usize) -> u32
-    requires { ⌜ Filled limits (now t) × (s < length (stacksIn limits (now t))) × (j < length (stackAt (stacksIn limits (now t)) s .load)) ⌝ }
+    requires { ⌜ Filled limits (now t) × (s < length (stacksIn limits (now t)))
+        × (j < length (stackAt (stacksIn limits (now t)) s .load)) ⌝ }
     ensures { λ r. ⌜ (r ≡ getD (stackAt (stacksIn limits (now (t .entry))) s .load) j 0) × IsItem (instanceIn limits (now (t .entry))) r ⌝ }
 {
     let first = load_at(t, limits, s);

@@ -24,7 +24,8 @@ pub fn first_byte(bytes: &[u8], from: usize, byte: u8) -> usize
 
 // Whether the line begins with the key, byte by byte.
 pub fn begins_with(line: &[u8], key: &[u8]) -> bool
-    ensures { λ r. ⌜ cond r (some (drop (length (now (key .entry))) (now (line .entry)))) none ≡ valueAfter (now (key .entry)) (now (line .entry)) ⌝ }
+    ensures { λ r. ⌜ cond r (some (drop (length (now (key .entry))) (now (line .entry)))) none
+        ≡ valueAfter (now (key .entry)) (now (line .entry)) ⌝ }
 {
     if line.len() < key.len() {
         return false;
@@ -115,7 +116,8 @@ pub enum ParsedNumbers {
 // Stores the numbers of a value, which stand between commas, from the front of `out` on.
 pub fn parse_numbers(value: &[u8], least: usize, out: &mut [u32]) -> ParsedNumbers
     ensures answer { λ r. ⌜ r ≡ parsedNumbers least (length (now (out .entry))) (numbers (commaParts (now (value .entry)))) ⌝ }
-    ensures words { λ _. ⌜ now (out .exit) ≡ sets (now (out .entry)) 0 (leading (length (now (out .entry))) (commaParts (now (value .entry)))) ⌝ }
+    ensures words { λ _. ⌜ now (out .exit) ≡ sets (now (out .entry)) 0
+        (leading (length (now (out .entry))) (commaParts (now (value .entry)))) ⌝ }
 {
     let mut count: usize = 0;
     let mut from: usize = 0;
@@ -152,7 +154,8 @@ pub enum ParsedLine {
 // Stores the numbers of the line that begins at `at`: at least `least` of them, and at most as many as `out` has room for.
 pub fn parse_line(bytes: &[u8], at: usize, key: &[u8], least: usize, out: &mut [u32]) -> ParsedLine
     ensures answer { λ r. ⌜ r ≡ parsedLine (now (key .entry)) least (length (now (out .entry))) at (drop at (now (bytes .entry))) ⌝ }
-    ensures words { λ _. ⌜ now (out .exit) ≡ sets (now (out .entry)) 0 (lineWords (now (key .entry)) (length (now (out .entry))) (drop at (now (bytes .entry)))) ⌝ }
+    ensures words { λ _. ⌜ now (out .exit) ≡ sets (now (out .entry)) 0
+        (lineWords (now (key .entry)) (length (now (out .entry))) (drop at (now (bytes .entry)))) ⌝ }
 {
     let end = first_byte(bytes, at, 10);
     if bytes.len() <= end {

@@ -13,6 +13,12 @@ use lines::entries;
 use lines::identifiers_line;
 use lines::row_line;
 use table::clear;
+use table::layout::BEHIND_DOCKS;
+use table::layout::DOCK_COUNTS;
+use table::layout::PLANT_DOCKS;
+use table::layout::PRODUCTS;
+use table::layout::SUPPLIERS;
+use table::layout::TRUCK_WORDS;
 
 // A line of docks for each of the suppliers: their counts, then eight words for each.
 fn read_docks(file: &[u8], p: Progress, suppliers: usize, part: &mut [u32]) -> Progress
@@ -67,25 +73,41 @@ fn read_truck(file: &[u8], p: Progress, part: &mut [u32]) -> Progress
     requires { ⌜ Sound (now file) p × (length (now part) ≡ 160) ⌝ }
     ensures { λ r. ⌜ ReadInto (now (file .entry)) truckLines truckWords p r (now (part .exit)) ⌝ }
 {
-    clear(&mut part[0..160]);
-    let row = read_truck_row(file, p, &mut part[0..20]);
-    let products = counted_line(file, row, b"products=", &mut part[20..53]);
-    let suppliers = counted_line(file, products, b"suppliers=", &mut part[53..62]);
-    let docks = read_docks(file, suppliers, entries(suppliers), &mut part[62..134]);
-    counted_line(file, docks, b"plantdocks=", &mut part[134..143])
+    clear(&mut part[0..TRUCK_WORDS]);
+    let row = read_truck_row(file, p, &mut part[0..PRODUCTS]);
+    let products = counted_line(file, row, b"products=", &mut part[PRODUCTS..SUPPLIERS]);
+    let suppliers = counted_line(
+        file,
+        products,
+        b"suppliers=",
+        &mut part[SUPPLIERS..DOCK_COUNTS],
+    );
+    let docks = read_docks(
+        file,
+        suppliers,
+        entries(suppliers),
+        &mut part[DOCK_COUNTS..PLANT_DOCKS],
+    );
+    counted_line(
+        file,
+        docks,
+        b"plantdocks=",
+        &mut part[PLANT_DOCKS..BEHIND_DOCKS],
+    )
 }
 
 // The trucks one after another. Each is lent its own part of the table.
 pub fn read_trucks(file: &[u8], p: Progress, count: usize, part: &mut [u32]) -> Progress
     requires { ⌜ Sound (now file) p × (160 * count ≤ length (now part)) ⌝ }
-    ensures { λ r. ⌜ ReadInto (now (file .entry)) (times count truckLines) (rows (length (now (part .entry))) truckWords) p r (now (part .exit)) ⌝ }
+    ensures { λ r. ⌜ ReadInto (now (file .entry)) (times count truckLines) (rows (length (now (part .entry))) truckWords) p r
+        (now (part .exit)) ⌝ }
 {
     clear(part);
     let mut q = p;
     let mut k: usize = 0;
     while k < count {
-        let first = 160 * k;
-        q = read_truck(file, q, &mut part[first..first + 160]);
+        let first = TRUCK_WORDS * k;
+        q = read_truck(file, q, &mut part[first..first + TRUCK_WORDS]);
         k += 1;
     }
     q

@@ -10,6 +10,9 @@ use Rattle.table.proofs.docks.Tie as tie
 truck-at-requires : tie.Need-truck-at-requires
 truck-at-requires c κs = search needs
 
+sub-row : tie.Need-sub-row
+sub-row c = search needs
+
 add-first : tie.Need-add-first
 add-first c = search needs
 
@@ -77,7 +80,7 @@ returns : tie.Need-returns
 returns c =
     let s = c .before .before .before .before .before in
     let base = c .before .before .before .truck-at in
-    let at = base .result + 62 + 8 * s .args .supplier in
+    let at = base .result + 70 + 8 * (s .args .supplier - 1) in
     docks-read (s .pre .0) (s .args .n) (s .pre .1) (s .args .supplier) (s .pre .2) (s .pre .3) (base .result) at (at + c .before .as-index .result - at)
     (base .ensures .0) refl (omega arith)
 
@@ -86,6 +89,7 @@ docks-spec =
     tie.close
     (tie.spec
     truck-at-requires
+    sub-row
     add-first
     mul-first
     add-first-2

@@ -8,8 +8,14 @@ use Rattle.table.proofs.item_field.Tie as tie
 as-index-requires : tie.Need-as-index-requires
 as-index-requires c κs = search needs
 
+sub-row : tie.Need-sub-row
+sub-row c = search needs
+
 mul-row : tie.Need-mul-row
 mul-row c = search needs
+
+add-row : tie.Need-add-row
+add-row c = search needs
 
 add-result : tie.Need-add-result
 add-result c = search needs
@@ -28,4 +34,4 @@ returns c =
 pub item-field-spec : {M : Type 1} → statement M
 item-field-spec =
     tie.close
-    (tie.spec as-index-requires mul-row add-result mul-result shared-slice-read-result returns)
+    (tie.spec as-index-requires sub-row mul-row add-row add-result mul-result shared-slice-read-result returns)
