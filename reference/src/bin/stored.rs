@@ -65,7 +65,7 @@ fn store(from: &Path, to: &Path) -> std::io::Result<()> {
     for (index, line) in list.lines().enumerate() {
         let mut words = line.split(' ');
         let name = words.next().unwrap_or_default();
-        let label = words.last().unwrap_or_default();
+        let label = words.next_back().unwrap_or_default();
         let instance = std::fs::read(from.join(format!("{name}.instance")))?;
         let plan = std::fs::read(from.join(format!("{name}.plan")))?;
         stored.add(label, &instance, &plan, TABLE_WORDS);
