@@ -16,7 +16,7 @@ use Rattle.text.proofs.Bytes.{count-within}
 use Rattle.badline.specs.declared.LineFound.{LineFound}
 use Rattle.badline.specs.declared.LineFound.the-variants.{At, Absent}
 use Rattle.badline.specs.declared.BadLine.{BadLine}
-use Rattle.badline.specs.Places.{spanOf, fileOf, partOf, placeOr}
+use Rattle.badline.specs.Places.{spanOf, fileOf, partOf, placeOr, partPointer}
 
 -- ---- the number chooses the file
 -- a number that is one of two neighbours
@@ -107,6 +107,12 @@ handed-within instance plan number line = go (eqb number 4 || eqb number 5) (eqb
 module _ (instance plan : List ℕ) (r : BadLine) (q : Part) (is : partOf r ≡ q) where
   pub bytes-plan : r .plan ≡ true → spanBytes plan (span (r .start) (r .end)) ≡ partBytes instance plan q
   bytes-plan e = rw (← is, e)
+
+  pub pointer-plan : (a b : ℕ × ℕ) → r .plan ≡ true → (b .0, r .start + b .1) ≡ partPointer a b q
+  pointer-plan a b e = rw (← is, e)
+
+  pub pointer-instance : (a b : ℕ × ℕ) → r .plan ≡ false → (a .0, r .start + a .1) ≡ partPointer a b q
+  pointer-instance a b e = rw (← is, e)
 
   pub bytes-instance : r .plan ≡ false → spanBytes instance (span (r .start) (r .end)) ≡ partBytes instance plan q
   bytes-instance e = rw (← is, e)

@@ -1,4 +1,4 @@
--- Lines of a file as a walk from line to line finds them, and that a line lies within its file.
+-- Lines of a file as a walk from line to line finds them.
 use mathlib.Core.Path.{_≡_, refl, sym, _∙_}
 use mathlib.Core.Option.{none, some}
 use mathlib.Core.List.{List, [], _∷_}

@@ -1,7 +1,8 @@
-// After the check: the bad line, handed back as a part of the file that it stands in.
+// The bad line of a refused file, as a part of that file.
 ghost use mathlib.Core.Path.{_≡_};
+ghost use denote.Ref.{ptr};
 ghost use Rattle.meaning.specs.BadLine.{lineSpan, handedBack, partBytes};
-ghost use Rattle.badline.specs.Places.{spanOf, partOf, placeOr};
+ghost use Rattle.badline.specs.Places.{spanOf, partOf, placeOr, partPointer};
 use text::first_byte;
 
 // Where a line stands in its file: from its first byte up to its end, which is not included.
@@ -70,6 +71,8 @@ pub fn locate(instance: &[u8], plan: &[u8], number: u32, line: u32) -> BadLine
 // The bad line of a verdict, as a part of the file that it stands in.
 pub fn bad_line<'a>(instance: &'a [u8], plan: &'a [u8], number: u32, line: u32) -> &'a [u8]
     ensures { λ r. ⌜ now r ≡ partBytes (now (instance .entry)) (now (plan .entry))
+        (handedBack (now (instance .entry)) (now (plan .entry)) number line) ⌝ }
+    ensures place { λ r. ⌜ ptr r ≡ partPointer (ptr (instance .entry)) (ptr (plan .entry))
         (handedBack (now (instance .entry)) (now (plan .entry)) number line) ⌝ }
 {
     let place = locate(instance, plan, number, line);

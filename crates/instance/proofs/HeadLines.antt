@@ -8,7 +8,7 @@ use Rattle.meaning.specs.declared.Limits.{Limits}
 use Rattle.meaning.specs.Reader.{Reader, give, _>>=_}
 use Rattle.meaning.specs.Files.{Range, _to_, numberLine}
 use Rattle.lines.specs.declared.Progress.{Progress}
-use Rattle.lines.specs.declared.NumberRead.{NumberRead}
+use Rattle.lines.specs.declared.NumberAnswer.{NumberAnswer}
 use Rattle.lines.specs.Progress.{reached, resumed}
 use Rattle.instance.specs.Words.{HeadNumbers, headLines, headRow}
 use Rattle.instance.proofs.Blocks.{past-reader, given-reached}
@@ -31,10 +31,10 @@ module _ (m : Limits) where
   fromInventory αT = numberLine "inventory=" (0 to 1000) >>= fromExtra αT
 
 -- what reading one number promises
-abbrev pub Number : List ℕ → Progress → String → Range → NumberRead → Type 0
+abbrev pub Number : List ℕ → Progress → String → Range → NumberAnswer → Type 0
 Number file p key range r = reached file (r .value) (r .progress) ≡ resumed file p (numberLine key range)
 
-pub head-says : (m : Limits) (file : List ℕ) (p : Progress) (transport inventory extra items trucks : NumberRead)
+pub head-says : (m : Limits) (file : List ℕ) (p : Progress) (transport inventory extra items trucks : NumberAnswer)
     → Number file p "transport=" (0 to 1000) transport
     → Number file (transport .progress) "inventory=" (0 to 1000) inventory
     → Number file (inventory .progress) "extra=" (0 to 1000) extra

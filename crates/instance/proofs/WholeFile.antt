@@ -13,8 +13,8 @@ use Rattle.lines.specs.declared.Progress.the-variants.{Next}
 use Rattle.lines.specs.Progress.{reached, resumed, Going, endedAs, ReadInto}
 use Rattle.lines.proofs.Follow.{going-before}
 use Rattle.trucks.specs.Rows.{rows}
-use Rattle.instance.specs.declared.Head.{Head}
-use Rattle.instance.specs.Words.{HeadNumbers, headLines, headRow, HeadRead, instanceFile, instanceWords}
+use Rattle.instance.specs.declared.HeadAnswer.{HeadAnswer}
+use Rattle.instance.specs.Words.{HeadNumbers, headLines, headRow, HeadPromise, instanceFile, instanceWords}
 use Rattle.instance.proofs.Blocks.{past-reader, given-reached, regroup, same-resumed, times-count}
 use Rattle.instance.proofs.HeadLines.{headNumbers, fromInventory, fromExtra, fromItems, fromTrucks}
 use Rattle.lines.proofs.Ended.{ended-reached, ended-going, ended-sound}
@@ -39,8 +39,8 @@ head-first m n bs =
     regroup (numberLine "items=" (1 to m .items) n bs) (fromTrucks m αT αI αE) afterHead _ (λ items n bs.
     regroup (numberLine "trucks=" (1 to m .trucks) n bs) (λ trucks. give (headNumbers αT αI αE items trucks)) afterHead _ (λ trucks n bs. refl)))))
 
-module _ (m : Limits) (file : List ℕ) (head : Head) (items trucks : Progress) (a b c : List ℕ)
-    (h : HeadRead m file (Next 0 0 0) head a)
+module _ (m : Limits) (file : List ℕ) (head : HeadAnswer) (items trucks : Progress) (a b c : List ℕ)
+    (h : HeadPromise m file (Next 0 0 0) head a)
     (i : ReadInto file (times (head .items) (line itemLine)) (rows (16 * m .items) (λ ns. ns)) (head .progress) items b)
     (t : ReadInto file (times (head .trucks) truckLines) (rows (160 * m .trucks) truckWords) items trucks c) where
   abbrev numbers : HeadNumbers

@@ -13,7 +13,7 @@ use Rattle.meaning.specs.Table.{truckWords}
 use Rattle.lines.specs.declared.Progress.{Progress}
 use Rattle.lines.specs.Progress.{Going, ReadInto}
 use Rattle.trucks.specs.Rows.{rows}
-use Rattle.instance.specs.declared.Head.{Head}
+use Rattle.instance.specs.declared.HeadAnswer.{HeadAnswer}
 
 -- the numbers of the five lines that an instance begins with
 pub record HeadNumbers : Type 0 where
@@ -39,7 +39,7 @@ abbrev pub headRow : HeadNumbers → List ℕ
 headRow h = padded itemsAt (h .αT ∷ h .αI ∷ h .αE ∷ h .items ∷ h .trucks ∷ [])
 
 -- what reading the head promises: the counts besides, which are within the limits also after a refusal
-pub record HeadRead (m : Limits) (file : List ℕ) (p : Progress) (r : Head) (part : List ℕ) : Type 0 where
+pub record HeadPromise (m : Limits) (file : List ℕ) (p : Progress) (r : HeadAnswer) (part : List ℕ) : Type 0 where
   pub into : ReadInto file (headLines m) headRow p (r .progress) part
   pub items : Going (r .progress) → r .items ≡ into .value .items
   pub trucks : Going (r .progress) → r .trucks ≡ into .value .trucks

@@ -9,7 +9,7 @@ ghost use Rattle.table.specs.Filled.{Bounded};
 ghost use Rattle.lines.specs.declared.Progress.the-variants.{Next};
 ghost use Rattle.lines.specs.Progress.{Sound, ReadInto};
 ghost use Rattle.trucks.specs.Rows.{rows};
-ghost use Rattle.instance.specs.Words.{HeadRead, instanceFile, instanceWords};
+ghost use Rattle.instance.specs.Words.{HeadPromise, instanceFile, instanceWords};
 use lines::Progress;
 use lines::at_end;
 use lines::in_ranges;
@@ -48,6 +48,7 @@ fn item_in_range(fields: &[u32]) -> bool
     let length = fields[IL];
     let nesting = one_below(fields[IH]);
     let earliest = fields[IDE];
+    // Every field starts at 1, but for nesting height, forced orientation, IDE and IC, which start at 0, and IDL, which starts at IDE.
     let lows: [u32; 16] = [1, 1, 1, 0, 1, 1, 1, 1, 0, 0, earliest, 1, 1, 1, 1, 0];
     let highs: [u32; 16] = [
         20000, // IL
@@ -99,17 +100,17 @@ fn read_items(file: &[u8], p: Progress, count: usize, part: &mut [u32]) -> Progr
 
 // ---- the whole file
 
-// How far the head is read, and how many items and trucks it announces; 0 of what a refusal left unread.
-pub struct Head {
+// How far the head is read, and how many items and trucks it announces, both within the limits also after a refusal.
+pub struct HeadAnswer {
     pub progress: Progress,
     pub items: usize,
     pub trucks: usize,
 }
 
 // The five lines that the file begins with.
-fn read_head(limits: Limits, file: &[u8], p: Progress, part: &mut [u32]) -> Head
+fn read_head(limits: Limits, file: &[u8], p: Progress, part: &mut [u32]) -> HeadAnswer
     requires { ⌜ Bounded limits × Sound (now file) p × (length (now part) ≡ 16) ⌝ }
-    ensures { λ r. ⌜ HeadRead limits (now (file .entry)) p r (now (part .exit)) ⌝ }
+    ensures { λ r. ⌜ HeadPromise limits (now (file .entry)) p r (now (part .exit)) ⌝ }
 {
     clear(part);
     let transport = number_line(file, p, b"transport=", 0, 1000);
@@ -127,7 +128,7 @@ fn read_head(limits: Limits, file: &[u8], p: Progress, part: &mut [u32]) -> Head
     part[ITEM_COUNT] = items.value;
     part[TRUCK_COUNT] = trucks.value;
     let progress = trucks.progress;
-    Head {
+    HeadAnswer {
         progress: progress,
         items: items.value as usize,
         trucks: trucks.value as usize,

@@ -91,7 +91,7 @@ ranges (l ∷ lows) [] = []
 ranges (l ∷ lows) (h ∷ highs) = l to h ∷ ranges lows highs
 
 -- ---- what every filling function promises: from p on the reader was followed up to r; where nothing was refused, `out` has the words
--- of what was read
+-- of what was read. After a refusal nothing is said of `out`, for the reading call clears all named words then
 pub record ReadInto {A : Type 0} (file : List ℕ) (reader : Reader A) (words : A → List ℕ) (p r : Progress) (out : List ℕ) : Type 0 where
   pub value : A
   pub says : reached file value r ≡ resumed file p reader

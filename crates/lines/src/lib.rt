@@ -15,7 +15,8 @@ use text::ParsedLine;
 use text::parse_line;
 
 // How far a file is read: the place of the next line, how many lines are passed and how many entries the last of them has; or how many
-// lines stand before the first bad one, which is wrong in form or out of range.
+// lines stand before the first bad one, which is wrong in form or out of range. Between `stored_line` and `judged` the last line counts
+// as not passed yet, though its entries are given.
 pub enum Progress {
     Next(usize, usize, usize),
     WrongForm(usize),
@@ -88,7 +89,7 @@ fn are_distinct(words: &[u32]) -> bool
     true
 }
 
-// Whether the words are distinct identifiers.
+// "Entries are identifiers, distinct in their line".
 fn are_identifiers(words: &[u32]) -> bool
     ensures { λ r. ⌜ r ≡ (all (between 1 65535) (now (words .entry)) && distinct (now (words .entry))) ⌝ }
 {
@@ -130,7 +131,8 @@ pub fn stored_line(file: &[u8], p: Progress, key: &[u8], least: usize, out: &mut
     }
 }
 
-// The stored line is passed where it is in range. A line of wrong form was refused before.
+// The stored line is passed where it is in range. A line of wrong form was refused before. (The file is named for the promise that
+// the count of lines stays within its bytes.)
 pub fn judged(file: &[u8], p: Progress, in_range: bool) -> Progress
     requires { ⌜ Unpassed (now file) p ⌝ }
     ensures { λ r. ⌜ r ≡ judgedAs p in_range ⌝ }
@@ -165,7 +167,7 @@ pub fn at_end(file: &[u8], p: Progress) -> Progress
     }
 }
 
-// A line with one entry for each range.
+// A line of a fixed number of entries, each with a range of its own.
 pub fn row_line(
     file: &[u8],
     p: Progress,
@@ -212,14 +214,14 @@ pub fn counted_line(file: &[u8], p: Progress, key: &[u8], out: &mut [u32]) -> Pr
     r
 }
 
-// The number of a line that has one, 0 after a refusal.
-pub struct NumberRead {
+// How far the file is read, and the number of the line, which is within its range also after a refusal.
+pub struct NumberAnswer {
     pub progress: Progress,
     pub value: u32,
 }
 
 // A line with one number.
-pub fn number_line(file: &[u8], p: Progress, key: &[u8], low: u32, high: u32) -> NumberRead
+pub fn number_line(file: &[u8], p: Progress, key: &[u8], low: u32, high: u32) -> NumberAnswer
     requires { ⌜ Sound (now file) p × (high < 4294967295) ⌝ }
     ensures says { λ r. ⌜ ((k : Key) → bytes k ≡ now (key .entry)
         → reached (now (file .entry)) (r .value) (r .progress) ≡ resumed (now (file .entry)) p (numberLine k (low to high))) ⌝ }
@@ -230,12 +232,12 @@ pub fn number_line(file: &[u8], p: Progress, key: &[u8], low: u32, high: u32) ->
     let mut out: [u32; 1] = [0];
     let progress = row_line(file, p, key, &lows, &highs, &mut out);
     if entries(progress) == 0 {
-        return NumberRead {
+        return NumberAnswer {
             progress: progress,
             value: 0,
         };
     }
-    NumberRead {
+    NumberAnswer {
         progress: progress,
         value: out[0],
     }

@@ -1,6 +1,6 @@
 -- Document 01, "The working table": the model as words, and the model that words hold. Where a word stands is said here alone.
 use mathlib.Core.List.{List, [], _∷_, _++_, map, flatMap}
-use Prim.Native.Nat.{ℕ, _+_, _*_}
+use Prim.Native.Nat.{ℕ, _+_, _-_, _*_}
 use lib.ListN.{length, getD, take, drop}
 use Rattle.meaning.specs.declared.Limits.{Limits}
 use Rattle.meaning.specs.Lists.{chunks, padded}
@@ -47,6 +47,27 @@ words m i p =
     ++ (padded (160 * m .trucks) (flatMap truckWords (i .trucks))
     ++ (padded (8 * m .stacks) (stackWords 0 p)
     ++ padded (m .loads) (loadEntries p))))
+
+-- ---- where some words stand in a table
+-- the first word of a truck
+abbrev pub truckPlace : Limits → ℕ → ℕ
+truckPlace m n = trucksAt m + 160 * (n - 1)
+
+-- "62 dock counts": how many docks the k-th supplier of a truck has, from 0
+abbrev pub dockCount : Limits → List ℕ → ℕ → ℕ → ℕ
+dockCount m t n k = getD t (truckPlace m n + 62 + k) 0
+
+-- the first word of a stack
+abbrev pub stackPlace : Limits → ℕ → ℕ
+stackPlace m s = stacksAt m + 8 * s
+
+-- "first load index (among the loads, from 0)"
+abbrev pub loadFirst : Limits → List ℕ → ℕ → ℕ
+loadFirst m t s = getD t (stackPlace m s + 6) 0
+
+-- "load count"
+abbrev pub loadCount : Limits → List ℕ → ℕ → ℕ
+loadCount m t s = getD t (stackPlace m s + 7) 0
 
 -- ---- the model that words hold
 -- of each row as many words as its count says

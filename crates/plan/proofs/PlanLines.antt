@@ -11,13 +11,13 @@ use Rattle.lines.specs.declared.Progress.the-variants.{Next}
 use Rattle.lines.specs.Progress.{reached, resumed, Going, endedAs, ReadInto}
 use Rattle.lines.proofs.Follow.{first-reached, then-reached}
 use Rattle.lines.proofs.Ended.{ended-reached, ended-sound, ended-going}
-use Rattle.plan.specs.Words.{planWords, planFile, IsPlanRead}
+use Rattle.plan.specs.Words.{planWords, planFile, PlanPromise}
 use Rattle.plan.proofs.StackLines.{read-has, so-many}
 
 module _ (m : Limits) (items trucks : ℕ) (file part : List ℕ) (count : ℕ) (p q r : Progress) where
   pub plan-read : reached file count p ≡ resumed file (Next 0 0 0) (numberLine "stacks=" (0 to m .stacks))
       → ReadInto file (stackLines (m .loads) items trucks count [] 0) (planWords m) p q part → r ≡ endedAs (length file) q
-      → IsPlanRead m items trucks file (record { progress = r; stacks = count }) part
+      → PlanPromise m items trucks file (record { progress = r; stacks = count }) part
   unfolding planFile
   plan-read announced stacks ended =
       let ss = stacks .value in

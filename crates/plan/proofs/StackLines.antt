@@ -16,7 +16,7 @@ use Rattle.lines.specs.declared.Progress.{Progress}
 use Rattle.lines.specs.declared.Progress.the-variants.{Next, WrongForm, OutOfRange}
 use Rattle.lines.specs.Progress.{reached, resumed, Going, entriesOf, Sound, ReadInto, ReadEntries}
 use Rattle.lines.proofs.Follow.{first-reached, then-reached, give-reached, on-reached, going-before, read-meets}
-use Rattle.plan.specs.Words.{spliced, rowNumbers, oneStack, StackRead, planWords}
+use Rattle.plan.specs.Words.{spliced, rowNumbers, oneStack, StackPromise, planWords}
 use Rattle.plan.proofs.StackWords.{takenBy, SixFields, taken-more, loads-more, Stands, stands-none, stands-taken, stands-more, stack-put}
 
 -- ---- what readers find
@@ -171,7 +171,7 @@ module _ (m : Limits) (items trucks k held n : ℕ) (file part₀ part₁ ys : L
       → ReadInto file (line (stackLine trucks (rowNumbers k part₀))) (λ fields. spliced (8 * k) fields part₀) p q part₁
       → ReadEntries file (line (loadLine (length lent) items held)) (λ load. spliced held load lent) q r ys
       → held + entriesOf r ≤ length lent → n ≡ entriesOf r
-      → StackRead m items trucks k held file p r part₀ (set (set (putMid (8 * m .stacks) (length part₁ - 8 * m .stacks) part₁ ys) (8 * k + 6) held) (8 * k + 7) n)
+      → StackPromise m items trucks k held file p r part₀ (set (set (putMid (8 * m .stacks) (length part₁ - 8 * m .stacks) part₁ ys) (8 * k + 6) held) (8 * k + 7) n)
   stack-read h room long same lent-same row load within counted =
       let all : length lent ≡ m .loads = simp (length-take, length-drop) (omega arith) in
       let s = stackOf (row .value) (load .into .value) in
@@ -223,7 +223,7 @@ module _ {m : Limits} {items trucks count : ℕ} {file : List ℕ} {p : Progress
     (t : SoFar m items trucks count file p part q held k) where
   -- one stack more
   pub so-far-next : (r : Progress) (part′ : List ℕ) (n : ℕ) → k < count → count ≤ m .stacks → n ≡ entriesOf r → length part′ ≡ length part
-      → StackRead m items trucks k held file q r part part′ → SoFar m items trucks count file p part′ r (held + n) (k + 1)
+      → StackPromise m items trucks k held file q r part part′ → SoFar m items trucks count file p part′ r (held + n) (k + 1)
   so-far-next r part′ n h fits counted same one =
       let s = one .into .value in
       let ss = t .stacks in

@@ -12,7 +12,7 @@ use Rattle.meaning.specs.Table.{stackWords, loadEntries}
 use Rattle.lines.specs.declared.Progress.{Progress}
 use Rattle.lines.specs.declared.Progress.the-variants.{Next}
 use Rattle.lines.specs.Progress.{Going, entriesOf, ReadInto}
-use Rattle.plan.specs.declared.PlanRead.{PlanRead}
+use Rattle.plan.specs.declared.PlanAnswer.{PlanAnswer}
 
 -- xs with ys in the place of the words from `at` on
 abbrev pub spliced : ℕ → List ℕ → List ℕ → List ℕ
@@ -35,8 +35,8 @@ oneStack most items trucks taken held = do
 abbrev pub withStack : Limits → ℕ → ℕ → List ℕ → Stack → List ℕ
 withStack m k held part s = spliced (8 * m .stacks + held) (s .load) (spliced (8 * k) (s .fields ++ (held ∷ length (s .load) ∷ [])) part)
 
--- what reading one stack promises: the number of its items besides, which are within the limits also after a refusal
-pub record StackRead (m : Limits) (items trucks k held : ℕ) (file : List ℕ) (p r : Progress) (part₀ part : List ℕ) : Type 0 where
+-- what reading one stack promises: the number of its items besides, for which there is room behind those held, also after a refusal
+pub record StackPromise (m : Limits) (items trucks k held : ℕ) (file : List ℕ) (p r : Progress) (part₀ part : List ℕ) : Type 0 where
   pub into : ReadInto file (oneStack (m .loads) items trucks (rowNumbers k part₀) held) (withStack m k held part₀) p r part
   pub count : Going r → entriesOf r ≡ length (into .value .load)
   pub within : held + entriesOf r ≤ m .loads
@@ -55,6 +55,6 @@ planFile m items trucks = do
   atEnd p
 
 -- what reading the plan promises: the number of its stacks besides
-pub record IsPlanRead (m : Limits) (items trucks : ℕ) (file : List ℕ) (r : PlanRead) (part : List ℕ) : Type 0 where
+pub record PlanPromise (m : Limits) (items trucks : ℕ) (file : List ℕ) (r : PlanAnswer) (part : List ℕ) : Type 0 where
   pub into : ReadInto file (planFile m items trucks) (planWords m) (Next 0 0 0) (r .progress) part
   pub stacks : Going (r .progress) → r .stacks ≡ length (into .value)

@@ -9,7 +9,7 @@ ghost use Rattle.meaning.specs.Reader.{line};
 ghost use Rattle.meaning.specs.Files.{allWithin, stackRanges, stackLine, loadLine, stackLines};
 ghost use Rattle.table.specs.Filled.{Bounded};
 ghost use Rattle.lines.specs.Progress.{entriesOf, Sound, ReadInto, ReadEntries};
-ghost use Rattle.plan.specs.Words.{spliced, rowNumbers, StackRead, planWords, IsPlanRead};
+ghost use Rattle.plan.specs.Words.{spliced, rowNumbers, StackPromise, planWords, PlanPromise};
 use lines::Progress;
 use lines::all_between;
 use lines::at_end;
@@ -22,9 +22,10 @@ use meaning::Limits;
 use table::clear;
 use table::layout::LOAD_COUNT;
 use table::layout::LOAD_FIRST;
+use table::layout::STACK_FIELDS;
 use table::layout::STACK_WORDS;
 
-// Whether one of the stacks in the first rows has this number.
+// Whether one of the stacks in the first rows has this number, which is the first word of its row.
 fn is_taken(part: &[u32], rows: usize, number: u32) -> bool
     requires { ⌜ 8 * rows ≤ length (now part) ⌝ }
     ensures { λ r. ⌜ r ≡ listed number (rowNumbers rows (now (part .entry))) ⌝ }
@@ -44,6 +45,7 @@ fn stack_in_range(fields: &[u32], trucks: u32) -> bool
     requires { ⌜ length (now fields) ≡ 6 ⌝ }
     ensures { λ r. ⌜ r ≡ allWithin (stackRanges trucks) (now (fields .entry)) ⌝ }
 {
+    // number, truck, copy, x, y, orientation
     let lows: [u32; 6] = [1, 1, 0, 0, 0, 1];
     let highs: [u32; 6] = [65535, trucks, 99, 20000, 20000, 2];
     in_ranges(fields, &lows, &highs)
@@ -56,8 +58,14 @@ fn read_stack_row(file: &[u8], p: Progress, trucks: u32, k: usize, part: &mut [u
         (λ fields. spliced (8 * k) fields (now (part .entry))) p r (now (part .exit)) ⌝ }
 {
     let row = STACK_WORDS * k;
-    let stored = stored_line(file, p, b"stack=", 6, &mut part[row..row + 6]);
-    let in_range = stack_in_range(&part[row..row + 6], trucks);
+    let stored = stored_line(
+        file,
+        p,
+        b"stack=",
+        STACK_FIELDS,
+        &mut part[row..row + STACK_FIELDS],
+    );
+    let in_range = stack_in_range(&part[row..row + STACK_FIELDS], trucks);
     let taken = is_taken(part, k, part[row]);
     judged(file, stored, in_range && !taken)
 }
@@ -74,7 +82,7 @@ fn copy_words(from: &[u32], to: &mut [u32])
     }
 }
 
-// A `load=` line, behind the entries that the loads hold already. All together are to have room.
+// A `load=` line, behind the entries that the loads hold already. All loads together hold at most as many as there are words for them.
 fn read_load(file: &[u8], p: Progress, items: u32, held: usize, loads: &mut [u32]) -> Progress
     requires { ⌜ Sound (now file) p × (items < 4294967295) × (held ≤ length (now loads)) × (length (now loads) ≤ 65536) ⌝ }
     ensures read { λ r. ⌜ ReadEntries (now (file .entry)) (line (loadLine (length (now (loads .entry))) items held))
@@ -104,7 +112,7 @@ fn read_stack(
 ) -> Progress
     requires { ⌜ Bounded limits × Sound (now file) p × (items < 4294967295) × (trucks < 4294967295) × (k < limits .stacks)
         × (held ≤ limits .loads) × (length (now part) ≡ 8 * limits .stacks + limits .loads) ⌝ }
-    ensures { λ r. ⌜ StackRead limits items trucks k held (now (file .entry)) p r (now (part .entry)) (now (part .exit)) ⌝ }
+    ensures { λ r. ⌜ StackPromise limits items trucks k held (now (file .entry)) p r (now (part .entry)) (now (part .exit)) ⌝ }
 {
     let row = STACK_WORDS * k;
     let loads = STACK_WORDS * limits.stacks;
@@ -142,17 +150,23 @@ fn read_stacks(
     q
 }
 
-// How far the plan is read, and how many stacks it announces; 0 where a refusal left that unread.
-pub struct PlanRead {
+// How far the plan is read, and how many stacks it announces.
+pub struct PlanAnswer {
     pub progress: Progress,
     pub stacks: u32,
 }
 
 // The plan file, for an instance of so many items and trucks, into the words from the stacks on.
-pub fn read_plan(limits: Limits, file: &[u8], items: u32, trucks: u32, part: &mut [u32]) -> PlanRead
+pub fn read_plan(
+    limits: Limits,
+    file: &[u8],
+    items: u32,
+    trucks: u32,
+    part: &mut [u32],
+) -> PlanAnswer
     requires { ⌜ Bounded limits × (items < 4294967295) × (trucks < 4294967295)
         × (length (now part) ≡ 8 * limits .stacks + limits .loads) ⌝ }
-    ensures { λ r. ⌜ IsPlanRead limits items trucks (now (file .entry)) r (now (part .exit)) ⌝ }
+    ensures { λ r. ⌜ PlanPromise limits items trucks (now (file .entry)) r (now (part .exit)) ⌝ }
 {
     let stacks = number_line(
         file,
@@ -165,7 +179,7 @@ pub fn read_plan(limits: Limits, file: &[u8], items: u32, trucks: u32, part: &mu
     let count = stacks.value;
     let read = read_stacks(limits, file, announced, items, trucks, count as usize, part);
     let progress = at_end(file, read);
-    PlanRead {
+    PlanAnswer {
         progress: progress,
         stacks: count,
     }

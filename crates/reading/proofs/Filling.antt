@@ -32,11 +32,11 @@ use Rattle.lines.specs.declared.Progress.{Progress}
 use Rattle.lines.specs.declared.Progress.the-variants.{Next, WrongForm, OutOfRange}
 use Rattle.lines.specs.Progress.{reached, ReadInto}
 use Rattle.instance.specs.Words.{instanceFile, instanceWords}
-use Rattle.plan.specs.declared.PlanRead.{PlanRead}
-use Rattle.plan.specs.Words.{planWords, planFile, IsPlanRead}
+use Rattle.plan.specs.declared.PlanAnswer.{PlanAnswer}
+use Rattle.plan.specs.Words.{planWords, planFile, PlanPromise}
 use Rattle.reading.specs.declared.FilesRead.{FilesRead}
 use Rattle.reading.specs.declared.FilesRead.the-variants.{Readable, InstanceForm, InstanceRange, CodeClash, PlanForm, PlanRange}
-use Rattle.reading.specs.Answered.{refusalOf, IsFilled, HoldsInstance}
+use Rattle.reading.specs.Answered.{refusalOf, FillPromise, HoldsInstance}
 
 -- ---- the words of a model are those of its instance and those of its plan
 module _ (m : Limits) (i : Instance) where
@@ -120,16 +120,16 @@ whole-finds (outOfRange k) a n rest e = let z : _≡_ {A = ℕ} 0 1 = cc in omeg
 -- ---- what is answered
 module _ (m : Limits) (says : Reading) (t : List ℕ) where
   -- a refusal says nothing of the words
-  refused-filled : (r : FilesRead) (a : Answer) → says ≡ refused a → refusalOf r ≡ some a → IsFilled m says r t
+  refused-filled : (r : FilesRead) (a : Answer) → says ≡ refused a → refusalOf r ≡ some a → FillPromise m says r t
   refused-filled r a e k = record { refusal = rw e k; holds = λ i p f. absurd (let z : _≡_ {A = ℕ} 0 1 = cc in omega arith) }
 
   -- readable files say all of them
-  readable-filled : (i : Instance) (p : List Stack) → says ≡ readable i p → t ≡ words m i p → IsFilled m says Readable t
+  readable-filled : (i : Instance) (p : List Stack) → says ≡ readable i p → t ≡ words m i p → FillPromise m says Readable t
   readable-filled i p e k = record { refusal = rw e; holds = λ j q f. k ∙ ap₂ (words m) (cc) (cc) }
 
   -- a refusal at the line behind n lines
   line-refused : (r : FilesRead) (verdict n line : ℕ) → says ≡ refusedAt verdict (suc n) → line ≡ n + 1
-      → refusalOf r ≡ some (refusal verdict (place line 0 0)) → IsFilled m says r t
+      → refusalOf r ≡ some (refusal verdict (place line 0 0)) → FillPromise m says r t
   line-refused r verdict n line e k f = refused-filled r _ e (f ∙ ap (λ (l : ℕ). some (refusal verdict (place l 0 0))) (k ∙ add-one n))
 
 -- ---- by how far the instance is read
@@ -142,11 +142,11 @@ module _ (m : Limits) (file : List ℕ) (p : Progress) (part : List ℕ) (h : Re
   unfolding wholeFile
   instance-said q e = sym (h .says) ∙ ap (reached file (h .value)) e
 
-  pub instance-form : (plan t : List ℕ) (n line : ℕ) → p ≡ WrongForm n → line ≡ n + 1 → IsFilled m (both plan) (InstanceForm line) t
+  pub instance-form : (plan t : List ℕ) (n line : ℕ) → p ≡ WrongForm n → line ≡ n + 1 → FillPromise m (both plan) (InstanceForm line) t
   unfolding afterInstance
   instance-form plan t n line e k = line-refused m (both plan) t (InstanceForm line) 4 n line (ap (afterInstance m plan) (instance-said (WrongForm n) e)) k refl
 
-  pub instance-range : (plan t : List ℕ) (n line : ℕ) → p ≡ OutOfRange n → line ≡ n + 1 → IsFilled m (both plan) (InstanceRange line) t
+  pub instance-range : (plan t : List ℕ) (n line : ℕ) → p ≡ OutOfRange n → line ≡ n + 1 → FillPromise m (both plan) (InstanceRange line) t
   unfolding afterInstance
   instance-range plan t n line e k = line-refused m (both plan) t (InstanceRange line) 5 n line (ap (afterInstance m plan) (instance-said (OutOfRange n) e)) k refl
 
@@ -167,8 +167,8 @@ module _ (m : Limits) (file : List ℕ) (p : Progress) (part : List ℕ) (h : Re
       abbrev alone : Instance
       alone = instanceIn m (part ++ drop (end - 0) zeros)
 
-      pub instance-onward : (plan : List ℕ) (r : FilesRead) (t : List ℕ) → IsFilled m (afterClash m alone plan (lowest (codeClashes alone))) r t
-          → IsFilled m (both plan) r t
+      pub instance-onward : (plan : List ℕ) (r : FilesRead) (t : List ℕ) → FillPromise m (afterClash m alone plan (lowest (codeClashes alone))) r t
+          → FillPromise m (both plan) r t
       unfolding afterInstance
       instance-onward plan r t later =
           let same : alone ≡ h .value = ap (instanceIn m) placed ∙ instance-alone m (h .value) in-range in
@@ -176,33 +176,33 @@ module _ (m : Limits) (file : List ℕ) (p : Progress) (part : List ℕ) (h : Re
 
 -- ---- by the lowest code clash
 module _ (m : Limits) (i : Instance) (plan : List ℕ) (o : Option Place) (t : List ℕ) where
-  pub clash-refused : (n first : ℕ) → some (place n first 0) ≡ o → IsFilled m (afterClash m i plan o) (CodeClash n first) t
+  pub clash-refused : (n first : ℕ) → some (place n first 0) ≡ o → FillPromise m (afterClash m i plan o) (CodeClash n first) t
   unfolding afterClash
   clash-refused n first e = refused-filled m (afterClash m i plan o) t (CodeClash n first) _ (ap (afterClash m i plan) (sym e)) refl
 
-  pub no-clash : (r : FilesRead) → none ≡ o → IsFilled m (afterPlan i (wholeFile (planLines m i) plan)) r t → IsFilled m (afterClash m i plan o) r t
+  pub no-clash : (r : FilesRead) → none ≡ o → FillPromise m (afterPlan i (wholeFile (planLines m i) plan)) r t → FillPromise m (afterClash m i plan o) r t
   unfolding afterClash
   no-clash r e h = rw (← e) h
 
 -- ---- by how far the plan is read
-module _ (m : Limits) (i : Instance) (file : List ℕ) (items trucks : ℕ) (r : PlanRead) (part : List ℕ) (a : items ≡ length (i .items))
-    (b : trucks ≡ length (i .trucks)) (h : IsPlanRead m items trucks file r part) where
+module _ (m : Limits) (i : Instance) (file : List ℕ) (items trucks : ℕ) (r : PlanAnswer) (part : List ℕ) (a : items ≡ length (i .items))
+    (b : trucks ≡ length (i .trucks)) (h : PlanPromise m items trucks file r part) where
   abbrev onPlan : Reading
   onPlan = afterPlan i (wholeFile (planLines m i) file)
 
   plan-said : (q : Progress) → r .progress ≡ q → wholeFile (planLines m i) file ≡ reached file (h .into .value) q
   plan-said q e = sym (h .into .says ∙ rw (a, b) (plan-file m i file)) ∙ ap (reached file (h .into .value)) e
 
-  pub plan-form : (t : List ℕ) (n line : ℕ) → r .progress ≡ WrongForm n → line ≡ n + 1 → IsFilled m onPlan (PlanForm line) t
+  pub plan-form : (t : List ℕ) (n line : ℕ) → r .progress ≡ WrongForm n → line ≡ n + 1 → FillPromise m onPlan (PlanForm line) t
   unfolding afterPlan
   plan-form t n line e k = line-refused m onPlan t (PlanForm line) 7 n line (ap (afterPlan i) (plan-said (WrongForm n) e)) k refl
 
-  pub plan-range : (t : List ℕ) (n line : ℕ) → r .progress ≡ OutOfRange n → line ≡ n + 1 → IsFilled m onPlan (PlanRange line) t
+  pub plan-range : (t : List ℕ) (n line : ℕ) → r .progress ≡ OutOfRange n → line ≡ n + 1 → FillPromise m onPlan (PlanRange line) t
   unfolding afterPlan
   plan-range t n line e k = line-refused m onPlan t (PlanRange line) 8 n line (ap (afterPlan i) (plan-said (OutOfRange n) e)) k refl
 
   pub plan-readable : (t : List ℕ) (from at n k : ℕ) → InstanceInRange m i → t ≡ words m i [] → from ≡ stacksAt m → r .progress ≡ Next at n k
-      → IsFilled m onPlan Readable (set (putMid from (length t - from) t part) 5 (r .stacks))
+      → FillPromise m onPlan Readable (set (putMid from (length t - from) t part) 5 (r .stacks))
   unfolding afterPlan
   plan-readable t from at n k range w f e =
       readable-filled m onPlan _ i (h .into .value) (ap (afterPlan i) (plan-said (Next at n k) e))

@@ -19,7 +19,7 @@ use Rattle.reading.specs.declared.FilesRead.the-variants.{
   PlanRange,
   Readable,
 }
-use Rattle.reading.specs.Answered.{refusalOf, IsRead}
+use Rattle.reading.specs.Answered.{refusalOf, ReadPromise}
 
 -- each case has a number of its own, and its places are in the answer
 unfoldable caseOf : Option Answer → FilesRead
@@ -46,6 +46,6 @@ case-of (PlanRange line) = refl
 case-of Readable = refl
 
 pub nothing-free : (m : Limits) (instance plan table₀ table table′ : List ℕ) (r r′ : FilesRead)
-    → IsRead m instance plan table₀ table r → IsRead m instance plan table₀ table′ r′ → (r ≡ r′) × (table ≡ table′)
+    → ReadPromise m instance plan table₀ table r → ReadPromise m instance plan table₀ table′ r′ → (r ≡ r′) × (table ≡ table′)
 nothing-free m instance plan table₀ table table′ r r′ a b =
     (sym (case-of r) ∙ ap caseOf (a .refusal ∙ sym (b .refusal)) ∙ case-of r′, a .words ∙ sym (b .words))

@@ -25,7 +25,7 @@ use Rattle.table.specs.Filled.{Bounded, Filled}
 use Rattle.table.proofs.Fill.{table-filled}
 use Rattle.reading.specs.declared.FilesRead.{FilesRead}
 use Rattle.reading.specs.declared.FilesRead.the-variants as Read
-use Rattle.reading.specs.Answered.{refusalOf, readableBy, unrefused, refusedBy, IsFilled, IsNamed, expected, IsRead}
+use Rattle.reading.specs.Answered.{refusalOf, readableBy, unrefused, refusedBy, FillPromise, NamedPromise, expected, ReadPromise}
 
 -- a number above all keys is none of them
 pub not-among : (keys : List ℕ) (n : ℕ) → Every (λ (k : ℕ). k < n) keys → OneOf keys n → ⊥
@@ -36,13 +36,13 @@ not-among (k ∷ j ∷ keys) n h o = ⊎-elim (λ (e : n ≡ k). omega (arith, h
 -- ---- the named words, after a filling whose answer is told apart by a test
 module _ (m : Limits) (r : FilesRead) (test : Bool) (e : test ≡ readableBy r) where
   -- they stay where nothing is refused
-  kept : (says : Reading) (t : List ℕ) → IsFilled m says r t → not test ≡ false → IsNamed m says r t
+  kept : (says : Reading) (t : List ℕ) → FillPromise m says r t → not test ≡ false → NamedPromise m says r t
   unfolding namedAfter
   kept (refused a) t h k = absurd (true≢false (sym (ap not (e ∙ ap unrefused (h .refusal))) ∙ k))
   kept (readable i p) t h k = record { refusal = h .refusal; words = h .holds i p refl }
 
   -- and are cleared after a refusal
-  cleared : (says : Reading) (t : List ℕ) → refusalOf r ≡ refusedBy says → not test ≡ true → t ≡ replicate (named m) 0 → IsNamed m says r t
+  cleared : (says : Reading) (t : List ℕ) → refusalOf r ≡ refusedBy says → not test ≡ true → t ≡ replicate (named m) 0 → NamedPromise m says r t
   unfolding namedAfter
   cleared (refused a) t h k z = record { refusal = h; words = z }
   cleared (readable i p) t h k z = absurd (true≢false (sym k ∙ ap not (e ∙ ap unrefused h)))
@@ -52,13 +52,13 @@ module _ (m : Limits) (instance plan : List ℕ) where
   abbrev says : Reading
   says = readFiles m instance plan
 
-  pub instance-overlong : (t : List ℕ) → m .bytes < length instance → t ≡ replicate (named m) 0 → IsNamed m says Read.InstanceOverlong t
+  pub instance-overlong : (t : List ℕ) → m .bytes < length instance → t ≡ replicate (named m) 0 → NamedPromise m says Read.InstanceOverlong t
   unfolding readFiles
   instance-overlong t h z = cleared m Read.InstanceOverlong false refl says t (rw (lt-ltb (m .bytes) (length instance) h)) refl z
 
   -- where the instance is short enough
   module _ (h : length instance ≤ m .bytes) where
-    pub plan-overlong : (t : List ℕ) → m .bytes < length plan → t ≡ replicate (named m) 0 → IsNamed m says Read.PlanOverlong t
+    pub plan-overlong : (t : List ℕ) → m .bytes < length plan → t ≡ replicate (named m) 0 → NamedPromise m says Read.PlanOverlong t
     unfolding readFiles
     plan-overlong t k z =
         cleared m Read.PlanOverlong false refl says t (rw (le-ltb (m .bytes) (length instance) h, lt-ltb (m .bytes) (length plan) k)) refl z
@@ -68,18 +68,18 @@ module _ (m : Limits) (instance plan : List ℕ) where
     both-short k = rw (le-ltb (m .bytes) (length instance) h, le-ltb (m .bytes) (length plan) k)
 
     -- and the plan too
-    module _ (k : length plan ≤ m .bytes) (r : FilesRead) (t : List ℕ) (filled : IsFilled m (afterInstance m plan (wholeFile (instanceLines m) instance)) r t)
+    module _ (k : length plan ≤ m .bytes) (r : FilesRead) (t : List ℕ) (filled : FillPromise m (afterInstance m plan (wholeFile (instanceLines m) instance)) r t)
         (test : Bool) (e : test ≡ readableBy r) where
-      pub words-kept : not test ≡ false → IsNamed m says r t
+      pub words-kept : not test ≡ false → NamedPromise m says r t
       words-kept n = kept m r test e says t (rw (both-short k) filled) n
 
-      pub words-cleared : (zeros : List ℕ) → not test ≡ true → zeros ≡ replicate (named m) 0 → IsNamed m says r zeros
+      pub words-cleared : (zeros : List ℕ) → not test ≡ true → zeros ≡ replicate (named m) 0 → NamedPromise m says r zeros
       words-cleared zeros n z = cleared m r test e says zeros (rw (both-short k) (filled .refusal)) n z
 
 -- ---- the length of the table
 module _ (m : Limits) (instance plan table : List ℕ) where
   -- a short one stays
-  pub short-read : length table < named m → IsRead m instance plan table table Read.ShortTable
+  pub short-read : length table < named m → ReadPromise m instance plan table table Read.ShortTable
   unfolding expected tableAfter
   short-read h =
       let e = lt-ltb (length table) (named m) h in
@@ -97,8 +97,8 @@ module _ (m : Limits) (instance plan table : List ℕ) where
       (sym (ap₂ readable (instance-held m i p fits beyond) (stacks-held m i p fits beyond)), table-filled m i p beyond (read-in-range m instance plan r) b)
 
   -- of a long one the words beyond the named ones stay
-  pub long-read : Bounded m → (r : FilesRead) (t : List ℕ) (end : ℕ) → end ≡ named m → end ≤ length table → IsNamed m (readFiles m instance plan) r t
-      → IsRead m instance plan table (t ++ drop (end - 0) table) r
+  pub long-read : Bounded m → (r : FilesRead) (t : List ℕ) (end : ℕ) → end ≡ named m → end ≤ length table → NamedPromise m (readFiles m instance plan) r t
+      → ReadPromise m instance plan table (t ++ drop (end - 0) table) r
   unfolding expected tableAfter
   long-read b r t end n room h =
       let e = le-ltb (length table) (named m) (omega arith) in

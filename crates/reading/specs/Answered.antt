@@ -41,8 +41,8 @@ refusalOf (PlanRange line) = some (refusal 8 (place line 0 0))
 refusalOf Readable = none
 
 -- the same as an answer, with zeros where both files are readable
-abbrev pub refusalOr : FilesRead → Answer
-refusalOr r = elim (refusalOf r) [ none ↦ refusal 0 (place 0 0 0) | some a ↦ a ]
+abbrev pub refusalAnswer : FilesRead → Answer
+refusalAnswer r = elim (refusalOf r) [ none ↦ refusal 0 (place 0 0 0) | some a ↦ a ]
 
 -- there is no refusal
 abbrev pub unrefused : Option Answer → Bool
@@ -59,7 +59,7 @@ refusedBy (refused a) = some a
 refusedBy (readable i p) = none
 
 -- ---- what filling the named words promises: the meaning's refusal; or the words of what was read
-pub record IsFilled (m : Limits) (says : Reading) (r : FilesRead) (named : List ℕ) : Type 0 where
+pub record FillPromise (m : Limits) (says : Reading) (r : FilesRead) (named : List ℕ) : Type 0 where
   pub refusal : refusalOf r ≡ refusedBy says
   pub holds : (i : Instance) (p : List Stack) → says ≡ readable i p → named ≡ words m i p
 
@@ -69,7 +69,7 @@ pub record HoldsInstance (m : Limits) (t : List ℕ) : Type 0 where
   pub exactly : t ≡ words m (instanceIn m t) []
 
 -- ---- what reading into the named words promises: the meaning's refusal, and the words that the meaning leaves there
-pub record IsNamed (m : Limits) (says : Reading) (r : FilesRead) (named : List ℕ) : Type 0 where
+pub record NamedPromise (m : Limits) (says : Reading) (r : FilesRead) (named : List ℕ) : Type 0 where
   pub refusal : refusalOf r ≡ refusedBy says
   pub words : named ≡ namedAfter m says
 
@@ -80,7 +80,7 @@ unfolding readFiles
 expected m tableLength instance plan = cond (ltb tableLength (named m)) (some (refusal 1 (place 0 0 0))) (refusedBy (readFiles m instance plan))
 
 -- number, places and every word of the table; and where both files are readable, the table holds the model that they say
-pub record IsRead (m : Limits) (instance plan table₀ table : List ℕ) (r : FilesRead) : Type 0 where
+pub record ReadPromise (m : Limits) (instance plan table₀ table : List ℕ) (r : FilesRead) : Type 0 where
   pub refusal : refusalOf r ≡ expected m (length table₀) instance plan
   pub words : table ≡ tableAfter m table₀ instance plan
   pub model : r ≡ Readable → readFiles m instance plan ≡ readable (instanceIn m table) (stacksIn m table)

@@ -11,8 +11,8 @@ ghost use Rattle.meaning.specs.Model.{item};
 ghost use Rattle.meaning.specs.Table.{instanceIn};
 ghost use Rattle.meaning.specs.Verdict.{refusal};
 ghost use Rattle.meaning.specs.Check.{firstOfCode, sameBase, codeClashes, afterPlan, afterClash, afterInstance, readFiles};
-ghost use Rattle.table.specs.Filled.{Bounded, Filled, IsItem};
-ghost use Rattle.reading.specs.Answered.{clashPlace, IsFilled, HoldsInstance, readableBy, refusalOr, IsNamed, IsRead};
+ghost use Rattle.table.specs.Filled.{Bounded, Filled, ItemNumber};
+ghost use Rattle.reading.specs.Answered.{clashPlace, FillPromise, HoldsInstance, readableBy, refusalAnswer, NamedPromise, ReadPromise};
 use instance::read_instance;
 use lines::Progress;
 use meaning::Answer;
@@ -34,8 +34,8 @@ use table::truck_count;
 
 // The number of the first item with the code of item n.
 fn first_of_code(t: &[u32], limits: Limits, n: u32) -> u32
-    requires { ⌜ Filled limits (now t) × IsItem (instanceIn limits (now t)) n ⌝ }
-    ensures { λ r. ⌜ (r ≡ firstOfCode (instanceIn limits (now (t .entry))) n) × IsItem (instanceIn limits (now (t .entry))) r ⌝ }
+    requires { ⌜ Filled limits (now t) × ItemNumber (instanceIn limits (now t)) n ⌝ }
+    ensures { λ r. ⌜ (r ≡ firstOfCode (instanceIn limits (now (t .entry))) n) × ItemNumber (instanceIn limits (now (t .entry))) r ⌝ }
 {
     let code = item_field(t, limits, n, IS);
     let mut k: u32 = 1;
@@ -50,7 +50,7 @@ fn first_of_code(t: &[u32], limits: Limits, n: u32) -> u32
 
 // Whether two items have the same length and width.
 fn same_base(t: &[u32], limits: Limits, n: u32, k: u32) -> bool
-    requires { ⌜ Filled limits (now t) × IsItem (instanceIn limits (now t)) n × IsItem (instanceIn limits (now t)) k ⌝ }
+    requires { ⌜ Filled limits (now t) × ItemNumber (instanceIn limits (now t)) n × ItemNumber (instanceIn limits (now t)) k ⌝ }
     ensures { λ r. ⌜ r ≡ sameBase (item (instanceIn limits (now (t .entry))) n) (item (instanceIn limits (now (t .entry))) k) ⌝ }
 {
     if item_field(t, limits, n, IL) == item_field(t, limits, k, IL) {
@@ -60,7 +60,7 @@ fn same_base(t: &[u32], limits: Limits, n: u32, k: u32) -> bool
     }
 }
 
-// An item that differs in length or width from the first item of its code, and that one.
+// Verdict 6: an item that differs in length or width from the lowest-numbered item of its code, and that one.
 pub enum Clash {
     Between(u32, u32),
     Nowhere,
@@ -85,7 +85,7 @@ fn lowest_clash(t: &[u32], limits: Limits) -> Clash
 
 // ---- filling the named words
 
-// What two files are read as: why they are refused, with the line from 1 or the two items, or that they are readable.
+// What two files are read as: one of the refusals 1 to 8, with the line from 1 or the two items; or readable.
 pub enum FilesRead {
     ShortTable,
     InstanceOverlong,
@@ -109,7 +109,7 @@ fn line_number(lines: usize) -> u32
 // The plan, once the instance is read and has no code clash.
 fn fill_plan(limits: Limits, plan: &[u8], words: &mut [u32]) -> FilesRead
     requires { ⌜ HoldsInstance limits (now words) × (length (now words) ≡ named limits) × (length (now plan) ≤ limits .bytes) ⌝ }
-    ensures { λ r. ⌜ IsFilled limits (afterPlan (instanceIn limits (now (words .entry)))
+    ensures { λ r. ⌜ FillPromise limits (afterPlan (instanceIn limits (now (words .entry)))
         (wholeFile (planLines limits (instanceIn limits (now (words .entry)))) (now (plan .entry)))) r (now (words .exit)) ⌝ }
 {
     let items = item_count(words, limits);
@@ -128,7 +128,7 @@ fn fill_plan(limits: Limits, plan: &[u8], words: &mut [u32]) -> FilesRead
 // A code clash, or else the plan.
 fn fill_after_instance(limits: Limits, plan: &[u8], words: &mut [u32]) -> FilesRead
     requires { ⌜ HoldsInstance limits (now words) × (length (now words) ≡ named limits) × (length (now plan) ≤ limits .bytes) ⌝ }
-    ensures { λ r. ⌜ IsFilled limits (afterClash limits (instanceIn limits (now (words .entry))) (now (plan .entry))
+    ensures { λ r. ⌜ FillPromise limits (afterClash limits (instanceIn limits (now (words .entry))) (now (plan .entry))
         (lowest (codeClashes (instanceIn limits (now (words .entry)))))) r (now (words .exit)) ⌝ }
 {
     match lowest_clash(words, limits) {
@@ -141,7 +141,7 @@ fn fill_after_instance(limits: Limits, plan: &[u8], words: &mut [u32]) -> FilesR
 fn fill(limits: Limits, instance: &[u8], plan: &[u8], words: &mut [u32]) -> FilesRead
     requires { ⌜ Bounded limits × (length (now words) ≡ named limits) × (length (now instance) ≤ limits .bytes)
         × (length (now plan) ≤ limits .bytes) ⌝ }
-    ensures { λ r. ⌜ IsFilled limits (afterInstance limits (now (plan .entry)) (wholeFile (instanceLines limits) (now (instance .entry))))
+    ensures { λ r. ⌜ FillPromise limits (afterInstance limits (now (plan .entry)) (wholeFile (instanceLines limits) (now (instance .entry))))
         r (now (words .exit)) ⌝ }
 {
     clear(words);
@@ -169,9 +169,9 @@ fn without_cost(number: u32, first: u32, second: u32) -> Answer
     }
 }
 
-// The refusal's number and places; all 0 where both files are readable, for then the rules decide.
-pub fn answer_to(r: FilesRead) -> Answer
-    ensures { λ a. ⌜ a ≡ refusalOr r ⌝ }
+// The refusal with its number and places. For readable files all are 0, which is no verdict: the rules decide then.
+pub fn refusal_answer(r: FilesRead) -> Answer
+    ensures { λ a. ⌜ a ≡ refusalAnswer r ⌝ }
 {
     match r {
         FilesRead::ShortTable => without_cost(1, 0, 0),
@@ -201,7 +201,7 @@ fn is_readable(r: FilesRead) -> bool
 // Reads both files into the named words, which are zero after a refusal.
 fn read_named(limits: Limits, instance: &[u8], plan: &[u8], words: &mut [u32]) -> FilesRead
     requires { ⌜ Bounded limits × (length (now words) ≡ named limits) ⌝ }
-    ensures { λ r. ⌜ IsNamed limits (readFiles limits (now (instance .entry)) (now (plan .entry))) r (now (words .exit)) ⌝ }
+    ensures { λ r. ⌜ NamedPromise limits (readFiles limits (now (instance .entry)) (now (plan .entry))) r (now (words .exit)) ⌝ }
 {
     if limits.bytes < instance.len() {
         clear(words);
@@ -221,7 +221,7 @@ fn read_named(limits: Limits, instance: &[u8], plan: &[u8], words: &mut [u32]) -
 // Reads both files within the limits. Only the named words change, and none of a table that is too short.
 pub fn read_within(limits: Limits, instance: &[u8], plan: &[u8], table: &mut [u32]) -> FilesRead
     requires { ⌜ Bounded limits ⌝ }
-    ensures { λ r. ⌜ IsRead limits (now (instance .entry)) (now (plan .entry)) (now (table .entry)) (now (table .exit)) r ⌝ }
+    ensures { λ r. ⌜ ReadPromise limits (now (instance .entry)) (now (plan .entry)) (now (table .entry)) (now (table .exit)) r ⌝ }
 {
     let named = named_words(limits);
     if table.len() < named {
@@ -230,9 +230,9 @@ pub fn read_within(limits: Limits, instance: &[u8], plan: &[u8], table: &mut [u3
     read_named(limits, instance, plan, &mut table[0..named])
 }
 
-// Reads both files into a table of at least 8,976 words.
+// Reads both files into the lent table, by the limits of document 01. A table under 8,976 words is refused.
 pub fn read_files(instance: &[u8], plan: &[u8], table: &mut [u32]) -> FilesRead
-    ensures { λ r. ⌜ IsRead small (now (instance .entry)) (now (plan .entry)) (now (table .entry)) (now (table .exit)) r ⌝ }
+    ensures { λ r. ⌜ ReadPromise small (now (instance .entry)) (now (plan .entry)) (now (table .entry)) (now (table .exit)) r ⌝ }
 {
     read_within(small_limits(), instance, plan, table)
 }

@@ -10,7 +10,7 @@ use libc::STDOUT_FILENO;
 use meaning::Answer;
 use text::ParsedLine;
 
-// A file's bytes at the start of the buffer, and how many; none where there is no such file.
+// How many bytes of a file stand in front of the buffer now. A file that is not there has none.
 fn read_file(path: &[u8], buffer: &mut [u8]) -> usize
     ensures { λ r. ⌜ Counts r (now (buffer .exit)) ⌝ }
 {
@@ -73,7 +73,7 @@ fn run_case(instance: &[u8], plan: &[u8], lent: u32, table: &mut [u32]) {
     }
     fill(table, 7);
     let read = reading::read_files(instance, plan, &mut table[0..words]);
-    let answer = reading::answer_to(read);
+    let answer = reading::refusal_answer(read);
     print(wide(answer.number), b" ");
     print(wide(answer.first), b" ");
     print(wide(answer.second), b" ");

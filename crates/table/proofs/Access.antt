@@ -9,13 +9,13 @@ use Rattle.meaning.specs.declared.Limits.{Limits}
 use Rattle.meaning.specs.Limits.{loadsAt}
 use Rattle.meaning.specs.Model.{Truck, item, noTruck, truckNumbered}
 use Rattle.meaning.specs.Files.{itemLine}
-use Rattle.meaning.specs.Table.{truckIn, instanceIn, stacksIn}
+use Rattle.meaning.specs.Table.{truckIn, instanceIn, stacksIn, truckPlace, stackPlace, loadFirst, loadCount}
 use Rattle.meaning.specs.InRange.{Meets, TruckInRange}
 use Rattle.meaning.proofs.Lists.{every-at}
-use Rattle.table.specs.Filled.{Filled, noStack, stackAt, IsItem, IsTruck, docksOf, itemMost, truckMost, stackMost}
+use Rattle.table.specs.Filled.{Filled, noStack, stackAt, ItemNumber, TruckNumber, docksAtOrder, itemMost, truckMost, stackMost}
 use Rattle.table.proofs.Parts.{part, part-at, part-part, length-part, behind, behind-whole}
 use Rattle.table.proofs.Bounds.{StackBounded, stacks-bounded, item-most, truck-most, stack-most}
-use Rattle.table.proofs.Words.{truckPlace, stackPlace, loadFirst, loadCount, docks-row, truck-row, item-word, truck-word, stack-word, load-words}
+use Rattle.table.proofs.Words.{docks-row, truck-row, item-word, truck-word, stack-word, load-words}
 
 -- a word, by the place that the code finds it at, is a number of the model within its bound
 word-read : (t : List ℕ) (at place v most : ℕ) → at ≡ place → v ≡ getD t place 0 → v ≤ most → (getD t at 0 ≡ v) × (getD t at 0 ≤ most)
@@ -41,10 +41,10 @@ plantDocks-behind = record { inside = omega arith; stands = λ row. refl; short 
 
 module _ {m : Limits} {t : List ℕ} (h : Filled m t) where
   -- ---- what the ranges say of one item, one truck, one stack
-  pub item-in : (n : ℕ) → IsItem (instanceIn m t) n → Meets itemLine (item (instanceIn m t) n)
+  pub item-in : (n : ℕ) → ItemNumber (instanceIn m t) n → Meets itemLine (item (instanceIn m t) n)
   item-in n k = every-at (Meets itemLine) (instanceIn m t .items) [] (n - 1) (h .range .instance .items) (omega (arith, k .0, k .1))
 
-  pub truck-in : (n : ℕ) → IsTruck (instanceIn m t) n → TruckInRange (truckNumbered (instanceIn m t) n)
+  pub truck-in : (n : ℕ) → TruckNumber (instanceIn m t) n → TruckInRange (truckNumbered (instanceIn m t) n)
   truck-in n k = every-at TruckInRange (instanceIn m t .trucks) noTruck (n - 1) (h .range .instance .trucks) (omega (arith, k .0, k .1))
 
   pub stack-in : (s : ℕ) → s < length (stacksIn m t)
@@ -52,11 +52,11 @@ module _ {m : Limits} {t : List ℕ} (h : Filled m t) where
   stack-in s l = every-at (StackBounded _ _) (stacksIn m t) noStack s (stacks-bounded (m .loads) _ _ [] 0 (stacksIn m t) (h .range .stacks)) l
 
   -- ---- fields
-  pub item-read : (n f at : ℕ) → IsItem (instanceIn m t) n → f < 16 → at ≡ 16 * n + f
+  pub item-read : (n f at : ℕ) → ItemNumber (instanceIn m t) n → f < 16 → at ≡ 16 * n + f
       → (getD t at 0 ≡ getD (item (instanceIn m t) n) f 0) × (getD t at 0 ≤ itemMost f)
   item-read n f at k l e = word-read t at (16 * n + f) _ (itemMost f) e (item-word m t n f k l) (item-most (item (instanceIn m t) n) (item-in n k) f l)
 
-  pub truck-read : (n f at : ℕ) → IsTruck (instanceIn m t) n → f < 20 → at ≡ truckPlace m n + f
+  pub truck-read : (n f at : ℕ) → TruckNumber (instanceIn m t) n → f < 20 → at ≡ truckPlace m n + f
       → (getD t at 0 ≡ getD (truckNumbered (instanceIn m t) n .fields) f 0) × (getD t at 0 ≤ truckMost f)
   truck-read n f at k l e =
       word-read t at (truckPlace m n + f) _ (truckMost f) e (truck-word m t n f k l)
@@ -70,7 +70,7 @@ module _ {m : Limits} {t : List ℕ} (h : Filled m t) where
       (stack-most _ (length (instanceIn m t .trucks)) (stackAt (stacksIn m t) s) (stack-in s k) few f l)
 
   -- ---- the lists of a truck
-  module _ (n : ℕ) (k : IsTruck (instanceIn m t) n) where
+  module _ (n : ℕ) (k : TruckNumber (instanceIn m t) n) where
     truck-room : truckPlace m n + 160 ≤ length t
     truck-room = omega (arith, k .0, k .1, h .range .instance .truckCount, h .room)
 
@@ -99,7 +99,7 @@ module _ {m : Limits} {t : List ℕ} (h : Filled m t) where
       few-docks : getD t (truckPlace m n + 62 + (j - 1)) 0 ≤ 8
       few-docks = h .docks n (j - 1) k (omega (arith, few-suppliers))
 
-      docks-words : docksOf (truckNumbered (instanceIn m t) n) j ≡ part (truckPlace m n + 70 + 8 * (j - 1)) (getD t (truckPlace m n + 62 + (j - 1)) 0) t
+      docks-words : docksAtOrder (truckNumbered (instanceIn m t) n) j ≡ part (truckPlace m n + 70 + 8 * (j - 1)) (getD t (truckPlace m n + 62 + (j - 1)) 0) t
       docks-words =
           let base = truckPlace m n in
           let row = part base 160 t in
@@ -109,7 +109,7 @@ module _ {m : Limits} {t : List ℕ} (h : Filled m t) where
           let same = part-at base 160 53 t 0 (omega arith) in
           let count : base + (62 + (j - 1)) ≡ base + 62 + (j - 1) = omega arith in
           let place : base + (70 + 8 * (j - 1)) ≡ base + 70 + 8 * (j - 1) = omega arith in
-          ap (λ (a : Truck). docksOf a j) (truck-row m t n k)
+          ap (λ (a : Truck). docksAtOrder a j) (truck-row m t n k)
           ∙ docks-row row (j - 1) (length-part base 160 t truck-room) (omega arith) (omega arith)
           ∙ rw (part-at base 160 (62 + (j - 1)) t 0 (omega arith), part-part (70 + 8 * (j - 1)) 8 base 160 t (omega arith), count, place)
           (take-take _ 8 (drop (base + 70 + 8 * (j - 1)) t) few-docks)
@@ -118,7 +118,7 @@ module _ {m : Limits} {t : List ℕ} (h : Filled m t) where
       docks-room base e = (few-suppliers, rw e few-docks)
 
       pub docks-read : (base at size : ℕ) → base ≡ truckPlace m n → at ≡ base + 70 + 8 * (j - 1) → size ≡ getD t (base + 62 + (j - 1)) 0
-          → (part at size t ≡ docksOf (truckNumbered (instanceIn m t) n) j) × (length (part at size t) ≤ 8)
+          → (part at size t ≡ docksAtOrder (truckNumbered (instanceIn m t) n) j) × (length (part at size t) ≤ 8)
       docks-read base at size e f c =
           let room = docks-room base e in
           (rw (f, c, e) (sym docks-words), simp length-take (omega arith))
@@ -142,7 +142,7 @@ module _ {m : Limits} {t : List ℕ} (h : Filled m t) where
         omega (arith, load-length, h .loads s l, h .room)
 
     pub entry-read : (j at : ℕ) → j < length (stackAt (stacksIn m t) s .load) → at ≡ loadsAt m + loadFirst m t s + j
-        → (getD t at 0 ≡ getD (stackAt (stacksIn m t) s .load) j 0) × IsItem (instanceIn m t) (getD t at 0)
+        → (getD t at 0 ≡ getD (stackAt (stacksIn m t) s .load) j 0) × ItemNumber (instanceIn m t) (getD t at 0)
     entry-read j at k e =
         let inside : j < loadCount m t s = omega (arith, load-length) in
         let same : getD t at 0 ≡ getD (stackAt (stacksIn m t) s .load) j 0 =
@@ -151,5 +151,5 @@ module _ {m : Limits} {t : List ℕ} (h : Filled m t) where
         (same, rw same (stack-in s l .entries j k))
 
     -- its truck
-    pub truck-of : (r : ℕ) → r ≡ getD (stackAt (stacksIn m t) s .fields) 1 0 → (r ≡ getD (stackAt (stacksIn m t) s .fields) 1 0) × IsTruck (instanceIn m t) r
+    pub truck-of : (r : ℕ) → r ≡ getD (stackAt (stacksIn m t) s .fields) 1 0 → (r ≡ getD (stackAt (stacksIn m t) s .fields) 1 0) × TruckNumber (instanceIn m t) r
     truck-of r e = (e, rw e (stack-in s l .within 1 (omega arith)))

@@ -9,15 +9,14 @@ use Rattle.meaning.specs.declared.Limits.{Limits}
 use Rattle.meaning.specs.Lists.{Every, padded}
 use Rattle.meaning.specs.Limits.{trucksAt, stacksAt}
 use Rattle.meaning.specs.Model.{Instance, Truck, Stack, noTruck, truckNumbered}
-use Rattle.meaning.specs.Table.{truckWords, stackWords, loadEntries, words}
+use Rattle.meaning.specs.Table.{truckWords, stackWords, loadEntries, words, truckPlace}
 use Rattle.meaning.specs.InRange.{InRange, TruckFits, Fits}
 use Rattle.meaning.proofs.Lists.{every-at}
 use Rattle.meaning.proofs.Decode.{From, past, drop-from, word-at, length-padded, dockWords, from62, stackRow, length-stackRow}
 use Rattle.meaning.proofs.Decode.{behindStacks, truck-rows, stack-rows, instance-held, stacks-held, decodes}
 use Rattle.meaning.proofs.Ranges.{in-range-fits}
-use Rattle.table.specs.Filled.{Bounded, Filled, IsTruck}
+use Rattle.table.specs.Filled.{Bounded, Filled, TruckNumber}
 use Rattle.table.proofs.Parts.{part, part-at, chunk-at, map-at}
-use Rattle.table.proofs.Words.{truckPlace}
 
 -- ---- the dock counts of a truck
 -- the lengths of short lists, and zeros after them
@@ -65,13 +64,13 @@ module _ (m : Limits) (i : Instance) (p : List Stack) (beyond : List ℕ) (r : I
   fits : Fits m i p
   fits = in-range-fits m i p r
 
-  row-held : (n : ℕ) → IsTruck i n → part (truckPlace m n) 160 table ≡ truckWords (truckNumbered i n)
+  row-held : (n : ℕ) → TruckNumber i n → part (truckPlace m n) 160 table ≡ truckWords (truckNumbered i n)
   row-held n h =
       sym (chunk-at 160 (length (i .trucks)) (n - 1) (trucksAt m) table (omega (arith, h .0, h .1)))
       ∙ ap (λ (rows : List (List ℕ)). getD rows (n - 1) []) (truck-rows m i p fits beyond)
       ∙ map-at truckWords (i .trucks) (n - 1) noTruck [] (omega (arith, h .0, h .1))
 
-  docks-within : (n k : ℕ) → IsTruck i n → k < 8 → getD table (truckPlace m n + 62 + k) 0 ≤ 8
+  docks-within : (n k : ℕ) → TruckNumber i n → k < 8 → getD table (truckPlace m n + 62 + k) 0 ≤ 8
   docks-within n k h l =
       let e : truckPlace m n + 62 + k ≡ truckPlace m n + (62 + k) = omega arith in
       let f = every-at TruckFits (i .trucks) noTruck (n - 1) (fits .trucks) (omega (arith, h .0, h .1)) in

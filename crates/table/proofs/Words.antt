@@ -9,23 +9,9 @@ use Rattle.meaning.specs.declared.Limits.{Limits}
 use Rattle.meaning.specs.Lists.{chunks}
 use Rattle.meaning.specs.Limits.{itemsAt, trucksAt, stacksAt, loadsAt}
 use Rattle.meaning.specs.Model.{item, noTruck, truckNumbered}
-use Rattle.meaning.specs.Table.{cutRows, truckIn, instanceIn, stackIn, stacksIn}
-use Rattle.table.specs.Filled.{noStack, stackAt, IsItem, IsTruck}
+use Rattle.meaning.specs.Table.{cutRows, truckIn, instanceIn, stackIn, stacksIn, truckPlace, stackPlace, loadFirst, loadCount}
+use Rattle.table.specs.Filled.{noStack, stackAt, ItemNumber, TruckNumber}
 use Rattle.table.proofs.Parts.{part, part-at, length-part, length-chunks, chunk-at, length-made, made-at}
-
--- where a truck and a stack begin
-abbrev pub truckPlace : Limits → ℕ → ℕ
-truckPlace m n = trucksAt m + 160 * (n - 1)
-
-abbrev pub stackPlace : Limits → ℕ → ℕ
-stackPlace m s = stacksAt m + 8 * s
-
--- the words behind a stack's fields: its first entry among the loads, and how many it has
-abbrev pub loadFirst : Limits → List ℕ → ℕ → ℕ
-loadFirst m t s = getD t (stackPlace m s + 6) 0
-
-abbrev pub loadCount : Limits → List ℕ → ℕ → ℕ
-loadCount m t s = getD t (stackPlace m s + 7) 0
 
 -- ---- the docks of a truck's row, which stand in rows of eight words
 cut-at : (counts : List ℕ) (rows : List (List ℕ)) (k : ℕ) → k < length counts → k < length rows
@@ -60,13 +46,13 @@ module _ (m : Limits) (t : List ℕ) where
   stacks-counted = length-made (stackIn (drop (loadsAt m) t)) 8 (getD t 5 0) (drop (stacksAt m) t)
 
   -- ---- the rows
-  item-row : (n : ℕ) → IsItem (instanceIn m t) n → item (instanceIn m t) n ≡ part (16 * n) 16 t
+  item-row : (n : ℕ) → ItemNumber (instanceIn m t) n → item (instanceIn m t) n ≡ part (16 * n) 16 t
   unfolding instanceIn
   item-row n h =
       let e : itemsAt + 16 * (n - 1) ≡ 16 * n = omega (arith, h .0) in
       chunk-at 16 (getD t 3 0) (n - 1) itemsAt t (omega (arith, h .0, h .1, items-counted)) ∙ ap (λ (at : ℕ). part at 16 t) e
 
-  pub truck-row : (n : ℕ) → IsTruck (instanceIn m t) n → truckNumbered (instanceIn m t) n ≡ truckIn (part (truckPlace m n) 160 t)
+  pub truck-row : (n : ℕ) → TruckNumber (instanceIn m t) n → truckNumbered (instanceIn m t) n ≡ truckIn (part (truckPlace m n) 160 t)
   unfolding instanceIn
   truck-row n h = made-at truckIn 160 (getD t 4 0) (n - 1) (trucksAt m) t noTruck (omega (arith, h .0, h .1, trucks-counted))
 
@@ -75,10 +61,10 @@ module _ (m : Limits) (t : List ℕ) where
   stack-row s h = made-at (stackIn (drop (loadsAt m) t)) 8 (getD t 5 0) s (stacksAt m) t noStack (omega (arith, h, stacks-counted))
 
   -- ---- the fields
-  pub item-word : (n f : ℕ) → IsItem (instanceIn m t) n → f < 16 → getD (item (instanceIn m t) n) f 0 ≡ getD t (16 * n + f) 0
+  pub item-word : (n f : ℕ) → ItemNumber (instanceIn m t) n → f < 16 → getD (item (instanceIn m t) n) f 0 ≡ getD t (16 * n + f) 0
   item-word n f h l = rw (item-row n h) (part-at (16 * n) 16 f t 0 l)
 
-  pub truck-word : (n f : ℕ) → IsTruck (instanceIn m t) n → f < 20 → getD (truckNumbered (instanceIn m t) n .fields) f 0 ≡ getD t (truckPlace m n + f) 0
+  pub truck-word : (n f : ℕ) → TruckNumber (instanceIn m t) n → f < 20 → getD (truckNumbered (instanceIn m t) n .fields) f 0 ≡ getD t (truckPlace m n + f) 0
   unfolding truckIn
   truck-word n f h l = rw (truck-row n h) (getD-take 20 (part (truckPlace m n) 160 t) f 0 l ∙ part-at (truckPlace m n) 160 f t 0 (omega arith))
 

@@ -1,20 +1,20 @@
 -- What every reader of the working table may lean on, and how large what it reads can be.
 use mathlib.Core.List.{List, [], _∷_}
-use Prim.Native.Nat.{ℕ, _+_, _-_, _*_, _≤_, _<_}
+use Prim.Native.Nat.{ℕ, _+_, _-_, _≤_, _<_}
 use lib.ListN.{length, getD}
 use Rattle.meaning.specs.declared.Limits.{Limits}
-use Rattle.meaning.specs.Limits.{trucksAt, stacksAt, named}
+use Rattle.meaning.specs.Limits.{named}
 use Rattle.meaning.specs.Model.{Instance, Stack, Truck}
-use Rattle.meaning.specs.Table.{instanceIn, stacksIn}
+use Rattle.meaning.specs.Table.{instanceIn, stacksIn, dockCount, loadFirst, loadCount}
 use Rattle.meaning.specs.InRange.{InRange}
 
--- n is the number of an item
-abbrev pub IsItem : Instance → ℕ → Type 0
-IsItem i n = (1 ≤ n) × (n ≤ length (i .items))
+-- an item has this number: "Items and trucks are numbered from 1 in file order"
+abbrev pub ItemNumber : Instance → ℕ → Type 0
+ItemNumber i n = (1 ≤ n) × (n ≤ length (i .items))
 
--- n is the number of a truck
-abbrev pub IsTruck : Instance → ℕ → Type 0
-IsTruck i n = (1 ≤ n) × (n ≤ length (i .trucks))
+-- a truck has this number
+abbrev pub TruckNumber : Instance → ℕ → Type 0
+TruckNumber i n = (1 ≤ n) × (n ≤ length (i .trucks))
 
 -- limits small enough that places, lines and sums of weights fit their numbers
 pub record Bounded (m : Limits) : Type 0 where
@@ -28,10 +28,10 @@ pub record Filled (m : Limits) (t : List ℕ) : Type 0 where
   pub bounded : Bounded m
   pub room : named m ≤ length t
   pub range : InRange m (instanceIn m t) (stacksIn m t)
-  pub docks : (n k : ℕ) → IsTruck (instanceIn m t) n → k < 8 → getD t (trucksAt m + 160 * (n - 1) + 62 + k) 0 ≤ 8
-  pub loads : (s : ℕ) → s < length (stacksIn m t) → getD t (stacksAt m + 8 * s + 6) 0 + getD t (stacksAt m + 8 * s + 7) 0 ≤ m .loads
+  pub docks : (n k : ℕ) → TruckNumber (instanceIn m t) n → k < 8 → dockCount m t n k ≤ 8
+  pub loads : (s : ℕ) → s < length (stacksIn m t) → loadFirst m t s + loadCount m t s ≤ m .loads
 
--- stands in for a place that no stack has
+-- the stack of a place where there is none
 abbrev pub noStack : Stack
 noStack = record { fields = []; load = [] }
 
@@ -40,17 +40,17 @@ abbrev pub stackAt : List Stack → ℕ → Stack
 stackAt p s = getD p s noStack
 
 -- the docks of a truck's supplier, by the supplier's loading order
-abbrev pub docksOf : Truck → ℕ → List ℕ
-docksOf t k = getD (t .docks) (k - 1) []
+abbrev pub docksAtOrder : Truck → ℕ → List ℕ
+docksAtOrder t k = getD (t .docks) (k - 1) []
 
--- the highest number that a field of an item may have, by its place in the line
+-- a bound of each field of an item in range, by its place in the line, for sums and products of fields
 abbrev pub itemMost : ℕ → ℕ
 itemMost f =
     getD
     (20000 ∷ 20000 ∷ 20000 ∷ 20000 ∷ 50000 ∷ 65535 ∷ 64 ∷ 65535 ∷ 2 ∷ 399 ∷ 399 ∷ 65535 ∷ 65535 ∷ 65535 ∷ 65535 ∷ 100000 ∷ [])
     f 0
 
--- of a truck
+-- the same of a truck
 abbrev pub truckMost : ℕ → ℕ
 truckMost f =
     getD (
@@ -58,6 +58,6 @@ truckMost f =
     ∷ 20000 ∷ 20000 ∷ 20000 ∷ 50000 ∷ 50000 ∷ []
     ) f 0
 
--- of a stack; its truck is at most the number of trucks
+-- the same of a stack; its truck is one of those that `Bounded` limits leave room for
 abbrev pub stackMost : ℕ → ℕ
 stackMost f = getD (65535 ∷ 16777216 ∷ 99 ∷ 20000 ∷ 20000 ∷ 2 ∷ []) f 0

@@ -27,13 +27,17 @@ pub const DOCK_COUNTS: usize = 62;
 
 pub const DOCKS: usize = 70;
 
+pub const SUPPLIER_DOCKS: usize = 8; // words for the docks of each supplier
+
 pub const PLANT_DOCKS: usize = 134;
 
-pub const BEHIND_DOCKS: usize = 143;
+pub const BEHIND_DOCKS: usize = 143; // the words from here on belong to no line
 
 pub const TRUCK_WORDS: usize = 160;
 
 // ---- a stack: its fields, then where its load begins among the loads and how many entries it has
+pub const STACK_FIELDS: usize = 6;
+
 pub const LOAD_FIRST: usize = 6;
 
 pub const LOAD_COUNT: usize = 7;

@@ -4,9 +4,9 @@ ghost use Prim.Native.Nat.{ℕ, _+_, _-_, _*_, _≤_, _<_};
 ghost use lib.ListN.{length, getD, take, drop, replicate};
 ghost use Rattle.meaning.specs.Lists.{orderIn};
 ghost use Rattle.meaning.specs.Limits.{small, trucksAt, stacksAt, loadsAt, named};
-ghost use Rattle.meaning.specs.Model.{item, truckNumbered};
-ghost use Rattle.meaning.specs.Table.{instanceIn, stacksIn};
-ghost use Rattle.table.specs.Filled.{Bounded, Filled, stackAt, IsItem, IsTruck, docksOf, itemMost, truckMost, stackMost};
+ghost use Rattle.meaning.specs.Model.{item, truckNumbered, truck};
+ghost use Rattle.meaning.specs.Table.{instanceIn, stacksIn, truckPlace, loadFirst};
+ghost use Rattle.table.specs.Filled.{Bounded, Filled, stackAt, ItemNumber, TruckNumber, docksAtOrder, itemMost, truckMost, stackMost};
 use fields::TRUCK;
 use layout::DOCK_COUNTS;
 use layout::DOCKS;
@@ -21,6 +21,7 @@ use layout::PLANT_DOCKS;
 use layout::PRODUCTS;
 use layout::STACK_COUNT;
 use layout::STACK_WORDS;
+use layout::SUPPLIER_DOCKS;
 use layout::SUPPLIERS;
 use layout::TRANSPORT;
 use layout::TRUCK_COUNT;
@@ -88,7 +89,8 @@ pub fn clear(words: &mut [u32])
     }
 }
 
-// ---- the accessors of a filled table
+// ---- the accessors of a filled table. They take the limits and the table also where the code needs one of them only, for their promises
+// speak of the model that both give
 
 // A word as a count or a place.
 fn as_index(word: u32) -> usize
@@ -147,7 +149,7 @@ pub fn stack_count(t: &[u32], limits: Limits) -> usize
 
 // A field of an item's line.
 pub fn item_field(t: &[u32], limits: Limits, n: u32, field: usize) -> u32
-    requires { ⌜ Filled limits (now t) × IsItem (instanceIn limits (now t)) n × (field < 16) ⌝ }
+    requires { ⌜ Filled limits (now t) × ItemNumber (instanceIn limits (now t)) n × (field < 16) ⌝ }
     ensures { λ r. ⌜ (r ≡ getD (item (instanceIn limits (now (t .entry))) n) field 0) × (r ≤ itemMost field) ⌝ }
 {
     let row = HEAD_WORDS + ITEM_WORDS * (as_index(n) - 1);
@@ -156,15 +158,15 @@ pub fn item_field(t: &[u32], limits: Limits, n: u32, field: usize) -> u32
 
 // The first word of a truck.
 fn truck_at(t: &[u32], limits: Limits, n: u32) -> usize
-    requires { ⌜ Filled limits (now t) × IsTruck (instanceIn limits (now t)) n ⌝ }
-    ensures { λ r. ⌜ (r ≡ trucksAt limits + 160 * (n - 1)) × (r + 160 ≤ length (now (t .entry))) ⌝ }
+    requires { ⌜ Filled limits (now t) × TruckNumber (instanceIn limits (now t)) n ⌝ }
+    ensures { λ r. ⌜ (r ≡ truckPlace limits n) × (r + 160 ≤ length (now (t .entry))) ⌝ }
 {
     trucks_at(limits) + TRUCK_WORDS * (as_index(n) - 1)
 }
 
 // A field of a truck's line.
 pub fn truck_field(t: &[u32], limits: Limits, n: u32, field: usize) -> u32
-    requires { ⌜ Filled limits (now t) × IsTruck (instanceIn limits (now t)) n × (field < 20) ⌝ }
+    requires { ⌜ Filled limits (now t) × TruckNumber (instanceIn limits (now t)) n × (field < 20) ⌝ }
     ensures { λ r. ⌜ (r ≡ getD (truckNumbered (instanceIn limits (now (t .entry))) n .fields) field 0) × (r ≤ truckMost field) ⌝ }
 {
     let base = truck_at(t, limits, n);
@@ -183,7 +185,7 @@ fn counted<'a>(t: &'a [u32], at: usize) -> &'a [u32]
 
 // The products that a truck carries.
 pub fn products<'a>(t: &'a [u32], limits: Limits, n: u32) -> &'a [u32]
-    requires { ⌜ Filled limits (now t) × IsTruck (instanceIn limits (now t)) n ⌝ }
+    requires { ⌜ Filled limits (now t) × TruckNumber (instanceIn limits (now t)) n ⌝ }
     ensures { λ r. ⌜ (now r ≡ truckNumbered (instanceIn limits (now (t .entry))) n .products) × (length (now r) ≤ 32) ⌝ }
 {
     let base = truck_at(t, limits, n);
@@ -192,7 +194,7 @@ pub fn products<'a>(t: &'a [u32], limits: Limits, n: u32) -> &'a [u32]
 
 // The suppliers that a truck visits, in their loading order.
 pub fn suppliers<'a>(t: &'a [u32], limits: Limits, n: u32) -> &'a [u32]
-    requires { ⌜ Filled limits (now t) × IsTruck (instanceIn limits (now t)) n ⌝ }
+    requires { ⌜ Filled limits (now t) × TruckNumber (instanceIn limits (now t)) n ⌝ }
     ensures { λ r. ⌜ (now r ≡ truckNumbered (instanceIn limits (now (t .entry))) n .suppliers) × (length (now r) ≤ 8) ⌝ }
 {
     let base = truck_at(t, limits, n);
@@ -201,20 +203,20 @@ pub fn suppliers<'a>(t: &'a [u32], limits: Limits, n: u32) -> &'a [u32]
 
 // The docks of a truck's supplier, who is given by the loading order.
 pub fn docks<'a>(t: &'a [u32], limits: Limits, n: u32, supplier: usize) -> &'a [u32]
-    requires { ⌜ Filled limits (now t) × IsTruck (instanceIn limits (now t)) n × (1 ≤ supplier)
+    requires { ⌜ Filled limits (now t) × TruckNumber (instanceIn limits (now t)) n × (1 ≤ supplier)
         × (supplier ≤ length (truckNumbered (instanceIn limits (now t)) n .suppliers)) ⌝ }
-    ensures { λ r. ⌜ (now r ≡ docksOf (truckNumbered (instanceIn limits (now (t .entry))) n) supplier) × (length (now r) ≤ 8) ⌝ }
+    ensures { λ r. ⌜ (now r ≡ docksAtOrder (truckNumbered (instanceIn limits (now (t .entry))) n) supplier) × (length (now r) ≤ 8) ⌝ }
 {
     let base = truck_at(t, limits, n);
     let row = supplier - 1;
-    let first = base + DOCKS + 8 * row;
+    let first = base + DOCKS + SUPPLIER_DOCKS * row;
     let end = first + as_index(t[base + DOCK_COUNTS + row]);
     &t[first..end]
 }
 
 // The plant docks of a truck, in their loading order.
 pub fn plant_docks<'a>(t: &'a [u32], limits: Limits, n: u32) -> &'a [u32]
-    requires { ⌜ Filled limits (now t) × IsTruck (instanceIn limits (now t)) n ⌝ }
+    requires { ⌜ Filled limits (now t) × TruckNumber (instanceIn limits (now t)) n ⌝ }
     ensures { λ r. ⌜ (now r ≡ truckNumbered (instanceIn limits (now (t .entry))) n .plantDocks) × (length (now r) ≤ 8) ⌝ }
 {
     let base = truck_at(t, limits, n);
@@ -247,8 +249,8 @@ pub fn stack_field(t: &[u32], limits: Limits, s: usize, field: usize) -> u32
 // The number of the truck that a stack is on.
 pub fn stack_truck(t: &[u32], limits: Limits, s: usize) -> u32
     requires { ⌜ Filled limits (now t) × (s < length (stacksIn limits (now t))) ⌝ }
-    ensures { λ r. ⌜ (r ≡ getD (stackAt (stacksIn limits (now (t .entry))) s .fields) 1 0)
-        × IsTruck (instanceIn limits (now (t .entry))) r ⌝ }
+    ensures { λ r. ⌜ (r ≡ truck (stackAt (stacksIn limits (now (t .entry))) s))
+        × TruckNumber (instanceIn limits (now (t .entry))) r ⌝ }
 {
     stack_field(t, limits, s, TRUCK)
 }
@@ -265,7 +267,7 @@ pub fn load_count(t: &[u32], limits: Limits, s: usize) -> usize
 // Where a stack's load begins in the table.
 fn load_at(t: &[u32], limits: Limits, s: usize) -> usize
     requires { ⌜ Filled limits (now t) × (s < length (stacksIn limits (now t))) ⌝ }
-    ensures { λ r. ⌜ (r ≡ loadsAt limits + getD (now (t .entry)) (stacksAt limits + 8 * s + 6) 0)
+    ensures { λ r. ⌜ (r ≡ loadsAt limits + loadFirst limits (now (t .entry)) s)
         × (r + length (stackAt (stacksIn limits (now (t .entry))) s .load) ≤ length (now (t .entry))) ⌝ }
 {
     let row = stacks_at(limits) + STACK_WORDS * s;
@@ -276,7 +278,7 @@ fn load_at(t: &[u32], limits: Limits, s: usize) -> usize
 pub fn load_entry(t: &[u32], limits: Limits, s: usize, j: usize) -> u32
     requires { ⌜ Filled limits (now t) × (s < length (stacksIn limits (now t)))
         × (j < length (stackAt (stacksIn limits (now t)) s .load)) ⌝ }
-    ensures { λ r. ⌜ (r ≡ getD (stackAt (stacksIn limits (now (t .entry))) s .load) j 0) × IsItem (instanceIn limits (now (t .entry))) r ⌝ }
+    ensures { λ r. ⌜ (r ≡ getD (stackAt (stacksIn limits (now (t .entry))) s .load) j 0) × ItemNumber (instanceIn limits (now (t .entry))) r ⌝ }
 {
     let first = load_at(t, limits, s);
     t[first + j]

@@ -17,10 +17,11 @@ use table::layout::BEHIND_DOCKS;
 use table::layout::DOCK_COUNTS;
 use table::layout::PLANT_DOCKS;
 use table::layout::PRODUCTS;
+use table::layout::SUPPLIER_DOCKS;
 use table::layout::SUPPLIERS;
 use table::layout::TRUCK_WORDS;
 
-// A line of docks for each of the suppliers: their counts, then eight words for each.
+// One `docks=` line for each supplier. The eight counts stand first, then the docks of each supplier in a row of their own.
 fn read_docks(file: &[u8], p: Progress, suppliers: usize, part: &mut [u32]) -> Progress
     requires { ⌜ Sound (now file) p × (suppliers ≤ 8) × (length (now part) ≡ 72) ⌝ }
     ensures { λ r. ⌜ ReadInto (now (file .entry)) (times suppliers (line docksLine)) dockWords p r (now (part .exit)) ⌝ }
@@ -29,8 +30,8 @@ fn read_docks(file: &[u8], p: Progress, suppliers: usize, part: &mut [u32]) -> P
     let mut q = p;
     let mut k: usize = 0;
     while k < suppliers {
-        let first = 8 + 8 * k;
-        q = identifiers_line(file, q, b"docks=", &mut part[first..first + 8]);
+        let first = 8 + SUPPLIER_DOCKS * k;
+        q = identifiers_line(file, q, b"docks=", &mut part[first..first + SUPPLIER_DOCKS]);
         part[k] = entries(q) as u32;
         k += 1;
     }
@@ -42,6 +43,7 @@ fn read_truck_row(file: &[u8], p: Progress, part: &mut [u32]) -> Progress
     requires { ⌜ Sound (now file) p × (length (now part) ≡ 20) ⌝ }
     ensures { λ r. ⌜ ReadInto (now (file .entry)) (line truckLine) (λ ns. ns) p r (now (part .exit)) ⌝ }
 {
+    // Every field starts at 1, but for TDA, TMM, TF, TC, CM, CJfc, CJfh, EM, EJcr and EJeh, which start at 0.
     let lows: [u32; 20] = [1, 1, 1, 1, 1, 0, 0, 0, 1, 0, 0, 1, 0, 0, 0, 1, 0, 0, 1, 1];
     let highs: [u32; 20] = [
         20000, // TL
@@ -73,6 +75,7 @@ fn read_truck(file: &[u8], p: Progress, part: &mut [u32]) -> Progress
     requires { ⌜ Sound (now file) p × (length (now part) ≡ 160) ⌝ }
     ensures { λ r. ⌜ ReadInto (now (file .entry)) truckLines truckWords p r (now (part .exit)) ⌝ }
 {
+    // Whatever stood in the truck's words before, nothing of it is left.
     clear(&mut part[0..TRUCK_WORDS]);
     let row = read_truck_row(file, p, &mut part[0..PRODUCTS]);
     let products = counted_line(file, row, b"products=", &mut part[PRODUCTS..SUPPLIERS]);
@@ -96,7 +99,7 @@ fn read_truck(file: &[u8], p: Progress, part: &mut [u32]) -> Progress
     )
 }
 
-// The trucks one after another. Each is lent its own part of the table.
+// The trucks one after another, each into the part of the table that it is lent. The words of trucks that the instance lacks are zero.
 pub fn read_trucks(file: &[u8], p: Progress, count: usize, part: &mut [u32]) -> Progress
     requires { ⌜ Sound (now file) p × (160 * count ≤ length (now part)) ⌝ }
     ensures { λ r. ⌜ ReadInto (now (file .entry)) (times count truckLines) (rows (length (now (part .entry))) truckWords) p r

@@ -2,7 +2,7 @@
 use mathlib.Core.Path.{sym, subst}
 use borrow.Author.Needs.{needs}
 use Rattle.badline.specs.Places.{partOf}
-use Rattle.badline.proofs.Parts.{Within, handed-within, bytes-plan, bytes-instance, within-plan, within-instance}
+use Rattle.badline.proofs.Parts.{Within, handed-within, bytes-plan, bytes-instance, pointer-plan, pointer-instance, within-plan, within-instance}
 use Rattle.badline.proofs.bad_line.Statement.{statement}
 use Rattle.badline.proofs.bad_line.Tie as tie
 
@@ -37,14 +37,18 @@ part-result-end-2 c = within-instance (within (c .before)) (c .if1 .left)
 returns : tie.Need-returns
 returns c =
     let l = c .before .before in
-    let a = l .before .before .before .args in
-    bytes-plan (a .instance .now) (a .plan .now) (l .locate .result) _ (l .locate .ensures) (c .before .if1 .taken)
+    let a = l .before .before .before .args in (
+      bytes-plan (a .instance .now) (a .plan .now) (l .locate .result) _ (l .locate .ensures) (c .before .if1 .taken),
+      pointer-plan (a .instance .now) (a .plan .now) (l .locate .result) _ (l .locate .ensures) _ _ (c .before .if1 .taken),
+    )
 
 returns-2 : tie.Need-returns-2
 returns-2 c =
     let l = c .before .before in
-    let a = l .before .before .before .args in
-    bytes-instance (a .instance .now) (a .plan .now) (l .locate .result) _ (l .locate .ensures) (c .before .if1 .left)
+    let a = l .before .before .before .args in (
+      bytes-instance (a .instance .now) (a .plan .now) (l .locate .result) _ (l .locate .ensures) (c .before .if1 .left),
+      pointer-instance (a .instance .now) (a .plan .now) (l .locate .result) _ (l .locate .ensures) _ _ (c .before .if1 .left),
+    )
 
 pub bad-line-spec : {M : Type 1} → statement M
 bad-line-spec =

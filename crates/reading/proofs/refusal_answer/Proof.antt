@@ -1,7 +1,7 @@
 -- Each case of the answer by itself.
 use borrow.Author.Needs.{needs}
-use Rattle.reading.proofs.answer_to.Statement.{statement}
-use Rattle.reading.proofs.answer_to.Tie as tie
+use Rattle.reading.proofs.refusal_answer.Statement.{statement}
+use Rattle.reading.proofs.refusal_answer.Tie as tie
 
 enum-told : tie.Need-enum-told
 enum-told c = search needs
@@ -84,8 +84,8 @@ returns-8 c = rw (c .before .before .r5 .given .1) (c .without-cost8 .ensures)
 returns-9 : tie.Need-returns-9
 returns-9 c = rw (c .before .enum-told4 .given .1) (c .without-cost9 .ensures)
 
-pub answer-to-spec : {M : Type 1} → statement M
-answer-to-spec =
+pub refusal-answer-spec : {M : Type 1} → statement M
+refusal-answer-spec =
     tie.close
     (tie.spec
     enum-told
