@@ -1,6 +1,6 @@
 // Runs the stored cases through the reading call. Every word of the table holds a number before each call. Printed for each case: the
-// verdict's number (0 for readable files) and its first two places, a checksum of the whole table, and where the bad line stands: 0 for
-// the instance or 1 for the plan, its start and its end.
+// verdict's number (0 for readable files), its first two places and a checksum of the whole table; then, for the answer's bad line and for
+// five further verdicts and lines: 0 for the instance or 1 for the plan, the line's start and end there, and a checksum of its bytes.
 //
 // data/files.bin has the files of all cases; a line of data/cases.txt says where a case's instance begins and how long it is, the same
 // of its plan, and how many words of the table are lent. data/labels.txt says in a word what each case tries.
@@ -56,29 +56,72 @@ fn checksum(words: &[u32]) -> u64 {
     sum
 }
 
-// Prints where the bad line stands.
-fn print_line(instance: &[u8], plan: &[u8], number: u32, line: u32) {
+// The same number, wider.
+fn wide_byte(byte: u8) -> u64
+    ensures { λ r. ⌜ r < 256 ⌝ }
+{
+    byte as u64
+}
+
+// The same checksum, of bytes.
+fn byte_checksum(bytes: &[u8]) -> u64 {
+    let mut sum: u64 = 0;
+    let mut i = 0;
+    while i < bytes.len() {
+        sum = (sum % 4294967291 * 31 + wide_byte(bytes[i])) % 4294967291;
+        i += 1;
+    }
+    sum
+}
+
+// Prints where the bad line of a verdict stands, and what it is.
+fn print_line<'a>(instance: &'a [u8], plan: &'a [u8], number: u32, line: u32) {
     let place = badline::locate(instance, plan, number, line);
     let file: u64 = if place.plan { 1 } else { 0 };
+    io::write_all(STDOUT_FILENO, b"; ");
     print(file, b" ");
     print(place.start as u64, b" ");
-    print(place.end as u64, b"\n");
+    print(place.end as u64, b" ");
+    print(
+        byte_checksum(badline::bad_line(instance, plan, number, line)),
+        b"",
+    );
+}
+
+// Line 0, lines that may be missing, and a verdict that has no bad line.
+fn print_asked_lines<'a>(instance: &'a [u8], plan: &'a [u8]) {
+    print_line(instance, plan, 4, 0);
+    print_line(instance, plan, 5, 3);
+    print_line(instance, plan, 7, 2);
+    print_line(instance, plan, 8, 9999);
+    print_line(instance, plan, 6, 1);
+}
+
+// Prints the answer of a case.
+fn print_case<'a>(instance: &'a [u8], plan: &'a [u8], answer: Answer, table: u64) {
+    print(wide(answer.number), b" ");
+    print(wide(answer.first), b" ");
+    print(wide(answer.second), b" ");
+    print(table, b"");
+    print_line(instance, plan, answer.number, answer.first);
+    print_asked_lines(instance, plan);
+    io::write_all(STDOUT_FILENO, b"\n");
 }
 
 // One case, with so many words of the table lent.
-fn run_case(instance: &[u8], plan: &[u8], lent: u32, table: &mut [u32]) {
+fn run_case<'a>(instance: &'a [u8], plan: &'a [u8], lent: u32, table: &mut [u32]) {
     let words = lent as usize;
     if table.len() < words {
         return;
     }
     fill(table, 7);
     let read = reading::read_files(instance, plan, &mut table[0..words]);
-    let answer = reading::refusal_answer(read);
-    print(wide(answer.number), b" ");
-    print(wide(answer.first), b" ");
-    print(wide(answer.second), b" ");
-    print(checksum(table), b" ");
-    print_line(instance, plan, answer.number, answer.first);
+    print_case(
+        instance,
+        plan,
+        reading::refusal_answer(read),
+        checksum(table),
+    );
 }
 
 // The part of the files that a case names; nothing where it lies outside.
@@ -116,7 +159,7 @@ fn run(cases: &[u8], files: &[u8], table: &mut [u32]) {
 
 fn main() {
     let mut cases = [0u8; 65536];
-    let mut files = [0u8; 524288];
+    let mut files = [0u8; 655360];
     let mut table = [0u32; 8980];
     let n = read_file(b"cases.txt", &mut cases);
     let m = read_file(b"files.bin", &mut files);

@@ -1,6 +1,6 @@
 //! Turns generated cases into the stored cases of a program of the repository: its data, and what it must print.
 
-use reference::{check, text, verdict, Answer};
+use reference::{bad_line, check, text, verdict};
 use std::fmt::Write;
 use std::path::Path;
 use std::process::ExitCode;
@@ -13,8 +13,12 @@ const USAGE: &str = "usage: stored DIR CRATE
 const TABLE_WORDS: usize = 8_980;
 /// What every word of the table holds before a call.
 const BEFORE: u32 = 7;
-/// Lengths around the one that is too short.
+/// No words, one too few, just enough.
 const OTHER_LENGTHS: [usize; 3] = [0, 8_975, 8_976];
+/// Cases that are tried with those lengths too: readable files, and files that are refused with a long table.
+const OTHERWISE_LENT: [&str; 4] = ["unchanged", "empty-both", "both-65536-bytes", "full"];
+/// Verdicts and lines for which the bad line is asked besides the answer's own: line 0, a line that may be missing, and other numbers.
+const ASKED: [(u32, u32); 5] = [(4, 0), (5, 3), (7, 2), (8, 9_999), (6, 1)];
 
 /// The files of all cases, one after the other. A file that is part of another is not written again.
 #[derive(Default)]
@@ -62,14 +66,14 @@ fn main() -> ExitCode {
 fn store(from: &Path, to: &Path) -> std::io::Result<()> {
     let mut stored = Stored::default();
     let list = std::fs::read_to_string(from.join("list.txt"))?;
-    for (index, line) in list.lines().enumerate() {
+    for line in list.lines() {
         let mut words = line.split(' ');
         let name = words.next().unwrap_or_default();
         let label = words.next_back().unwrap_or_default();
         let instance = std::fs::read(from.join(format!("{name}.instance")))?;
         let plan = std::fs::read(from.join(format!("{name}.plan")))?;
         stored.add(label, &instance, &plan, TABLE_WORDS);
-        if index == 0 {
+        if OTHERWISE_LENT.contains(&label) {
             for words in OTHER_LENGTHS {
                 stored.add(&format!("{label}-table-{words}"), &instance, &plan, words);
             }
@@ -94,7 +98,8 @@ impl Stored {
     }
 }
 
-/// The line for one case: number, two places, checksum of the whole table, and the bad line's file, start and end.
+/// The line for one case: number, two places, checksum of the whole table; then for the answer's bad line and for each that is asked
+/// besides: its file, start and end, and a checksum of its bytes.
 fn printed(instance: &[u8], plan: &[u8], words: usize) -> String {
     let mut table = vec![BEFORE; TABLE_WORDS];
     let answer = check(instance, plan, &mut table[..words]);
@@ -103,21 +108,28 @@ fn printed(instance: &[u8], plan: &[u8], words: usize) -> String {
         1..=8 => (answer.number, answer.first, answer.second),
         _ => (0, 0, 0),
     };
-    let sum = table
-        .iter()
-        .fold(0, |sum: u64, &word| (sum * 31 + u64::from(word)) % 4_294_967_291);
-    let (file, start, end) = located(instance, plan, &answer);
-    format!("{number} {first} {second} {sum} {file} {start} {end}")
+    let mut line = format!("{number} {first} {second} {}", checksum(table.into_iter()));
+    for (number, asked) in [(number, first)].into_iter().chain(ASKED) {
+        let (file, start, end) = located(instance, plan, number, asked);
+        let bytes = bad_line(instance, plan, number, asked).iter();
+        let sum = checksum(bytes.map(|&byte| u32::from(byte)));
+        write!(line, "; {file} {start} {end} {sum}").expect("a string takes every line");
+    }
+    line
+}
+
+fn checksum(words: impl Iterator<Item = u32>) -> u64 {
+    words.fold(0, |sum, word| (sum * 31 + u64::from(word)) % 4_294_967_291)
 }
 
 /// 0 for the instance and 1 for the plan, and from where to where the bad line stands there.
-fn located(instance: &[u8], plan: &[u8], answer: &Answer) -> (u32, usize, usize) {
-    let (file, bytes) = match answer.number {
+fn located(instance: &[u8], plan: &[u8], number: u32, line: u32) -> (u32, usize, usize) {
+    let (file, bytes) = match number {
         verdict::INSTANCE_FORM | verdict::INSTANCE_RANGE => (0, instance),
         verdict::PLAN_FORM | verdict::PLAN_RANGE => (1, plan),
         _ => return (0, instance.len(), instance.len()),
     };
-    match text::nth_line(bytes, answer.first) {
+    match text::nth_line(bytes, line) {
         Some(line) => {
             let start = line.as_ptr() as usize - bytes.as_ptr() as usize;
             (file, start, start + line.len())

@@ -21,6 +21,7 @@ pub fn add(cases: &mut Cases) {
     add_code_clashes(cases);
     add_smallest_loads(cases);
     add_largest_loads(cases);
+    add_full_tables(cases);
 }
 
 fn add_blank_files(cases: &mut Cases) {
@@ -308,5 +309,52 @@ fn add_largest_loads(cases: &mut Cases) {
         );
         let plan = b"stacks=1\nstack=65535,1,99,0,0,2\nload=1\n";
         cases.add_files(word, instance.into_bytes(), plan.to_vec());
+    }
+}
+
+/// As many items, trucks, stacks, load entries and listed identifiers as there may be, so that every row of the table is filled; and one
+/// more of each count.
+fn add_full_tables(cases: &mut Cases) {
+    for (word, items, trucks, stacks) in [
+        ("full", 256, 16, 256),
+        ("full-items-above", 257, 16, 256),
+        ("full-trucks-above", 256, 17, 256),
+        ("full-stacks-above", 256, 16, 257),
+    ] {
+        let list = |first: usize, count: usize| {
+            let numbers: Vec<String> = (first..first + count).map(|number| number.to_string()).collect();
+            numbers.join(",")
+        };
+        let mut instance = format!("transport=1\ninventory=1\nextra=1\nitems={items}\ntrucks={trucks}\n");
+        for item in 0..items {
+            instance += &format!(
+                "item={0},{0},9,0,1,{1},64,{1},0,0,9,1,1,1,1,{item}\n",
+                item + 1,
+                item + 1
+            );
+        }
+        for truck in 0..trucks {
+            instance += &format!("truck=9,9,9,9,1,0,9,0,9,{truck},9,9,9,9,9,9,9,9,9,9\n");
+            instance += &format!(
+                "products={}\nsuppliers={}\n",
+                list(100 * truck + 1, 32),
+                list(10 * truck + 1, 8)
+            );
+            for supplier in 0..8 {
+                instance += &format!("docks={}\n", list(1000 * truck + 10 * supplier + 1, 8));
+            }
+            instance += &format!("plantdocks={}\n", list(60_000 + truck, 8));
+        }
+        let mut plan = format!("stacks={stacks}\n");
+        for stack in 0..stacks {
+            plan += &format!(
+                "stack={},{},{},{stack},0,1\nload={}\n",
+                65_535 - stack,
+                stack % 16 + 1,
+                stack % 100,
+                stack % 256 + 1
+            );
+        }
+        cases.add_files(word, instance.into_bytes(), plan.into_bytes());
     }
 }
