@@ -10,6 +10,7 @@ use Rattle.meaning.specs.Lists.{Every}
 use Rattle.meaning.specs.Text.{Form}
 use Rattle.meaning.specs.Reader.{Outcome, found, wrongForm, outOfRange, Reader}
 use Rattle.meaning.specs.Files.{Range, _to_}
+use Rattle.meaning.specs.Table.{largestWord}
 use Rattle.lines.specs.declared.Progress.{Progress}
 use Rattle.lines.specs.declared.Progress.the-variants.{Next, WrongForm, OutOfRange}
 
@@ -82,7 +83,7 @@ endedAs size (OutOfRange n) = OutOfRange n
 
 -- a form whose range test refuses the largest word, which stands for all numbers that do not fit
 abbrev pub RefusesLargest : Form → Type 0
-RefusesLargest f = (ns : List ℕ) → length ns ≤ f .most → f .fits ns ≡ true → Every (λ n. n < 4294967295) ns
+RefusesLargest f = (ns : List ℕ) → length ns ≤ f .most → f .fits ns ≡ true → Every (λ n. n < largestWord) ns
 
 -- the ranges of two lists of ends
 unfoldable pub ranges : List ℕ → List ℕ → List Range

@@ -8,7 +8,7 @@ ghost use Rattle.meaning.specs.Lists.{Every, all, between, listed, distinct, pa
 ghost use Rattle.meaning.specs.Text.{Form, bytes};
 ghost use Rattle.meaning.specs.Reader.{line};
 ghost use Rattle.meaning.specs.Files.{allWithin, rowLine, identifiersLine, numberLine, _to_};
-ghost use Rattle.meaning.specs.Table.{countedWords};
+ghost use Rattle.meaning.specs.Table.{countedWords, largestWord};
 ghost use Rattle.lines.specs.Progress.{Key, reached, resumed, entriesOf, Sound, unjudged, judgedAs, endedAs, Unpassed, Stored, RefusesLargest, ranges, ReadEntries};
 use table::clear;
 use text::ParsedLine;
@@ -177,7 +177,7 @@ pub fn row_line(
     out: &mut [u32],
 ) -> Progress
     requires { ⌜ Sound (now file) p × (length (now lows) ≡ length (now out)) × (length (now highs) ≡ length (now out))
-        × Every (λ h. h < 4294967295) (now highs) ⌝ }
+        × Every (λ h. h < largestWord) (now highs) ⌝ }
     ensures { λ r. ⌜ ((k : Key) → bytes k ≡ now (key .entry)
         → ReadEntries (now (file .entry)) (line (rowLine k (ranges (now (lows .entry)) (now (highs .entry))))) (λ ns. ns) p r
         (now (out .exit))) ⌝ }
@@ -222,7 +222,7 @@ pub struct NumberAnswer {
 
 // A line with one number.
 pub fn number_line(file: &[u8], p: Progress, key: &[u8], low: u32, high: u32) -> NumberAnswer
-    requires { ⌜ Sound (now file) p × (high < 4294967295) ⌝ }
+    requires { ⌜ Sound (now file) p × (high < largestWord) ⌝ }
     ensures says { λ r. ⌜ ((k : Key) → bytes k ≡ now (key .entry)
         → reached (now (file .entry)) (r .value) (r .progress) ≡ resumed (now (file .entry)) p (numberLine k (low to high))) ⌝ }
     ensures sound { λ r. ⌜ Sound (now (file .entry)) (r .progress) × (r .value ≤ high) ⌝ }

@@ -7,6 +7,10 @@ use Rattle.meaning.specs.Lists.{chunks, padded}
 use Rattle.meaning.specs.Limits.{itemsAt, trucksAt, stacksAt, loadsAt}
 use Rattle.meaning.specs.Model.{Instance, Truck, Stack, Item}
 
+-- "The working table is a lent run of 32-bit unsigned words"
+abbrev pub largestWord : ℕ
+largestWord = 4294967295
+
 -- ---- the words of a model
 -- "0..5: αT, αI, αE, items, trucks, stacks"
 unfoldable pub headWords : Instance → List Stack → List ℕ

@@ -7,6 +7,7 @@ ghost use lib.ListN.{length};
 ghost use Rattle.meaning.specs.Lists.{listed};
 ghost use Rattle.meaning.specs.Reader.{line};
 ghost use Rattle.meaning.specs.Files.{allWithin, stackRanges, stackLine, loadLine, stackLines};
+ghost use Rattle.meaning.specs.Table.{largestWord};
 ghost use Rattle.table.specs.Filled.{Bounded};
 ghost use Rattle.lines.specs.Progress.{entriesOf, Sound, ReadInto, ReadEntries};
 ghost use Rattle.plan.specs.Words.{spliced, rowNumbers, StackPromise, planWords, PlanPromise};
@@ -53,7 +54,7 @@ fn stack_in_range(fields: &[u32], trucks: u32) -> bool
 
 // The k-th `stack=` line, into the first six words of its row. Its number is to differ from those of the rows before.
 fn read_stack_row(file: &[u8], p: Progress, trucks: u32, k: usize, part: &mut [u32]) -> Progress
-    requires { ⌜ Sound (now file) p × (trucks < 4294967295) × (8 * k + 8 ≤ length (now part)) ⌝ }
+    requires { ⌜ Sound (now file) p × (trucks < largestWord) × (8 * k + 8 ≤ length (now part)) ⌝ }
     ensures { λ r. ⌜ ReadInto (now (file .entry)) (line (stackLine trucks (rowNumbers k (now (part .entry)))))
         (λ fields. spliced (8 * k) fields (now (part .entry))) p r (now (part .exit)) ⌝ }
 {
@@ -84,7 +85,7 @@ fn copy_words(from: &[u32], to: &mut [u32])
 
 // A `load=` line, behind the entries that the loads hold already. All loads together hold at most as many as there are words for them.
 fn read_load(file: &[u8], p: Progress, items: u32, held: usize, loads: &mut [u32]) -> Progress
-    requires { ⌜ Sound (now file) p × (items < 4294967295) × (held ≤ length (now loads)) × (length (now loads) ≤ 65536) ⌝ }
+    requires { ⌜ Sound (now file) p × (items < largestWord) × (held ≤ length (now loads)) × (length (now loads) ≤ 65536) ⌝ }
     ensures read { λ r. ⌜ ReadEntries (now (file .entry)) (line (loadLine (length (now (loads .entry))) items held))
         (λ load. spliced held load (now (loads .entry))) p r (now (loads .exit)) ⌝ }
     ensures within { λ r. ⌜ held + entriesOf r ≤ length (now (loads .entry)) ⌝ }
@@ -110,7 +111,7 @@ fn read_stack(
     held: usize,
     part: &mut [u32],
 ) -> Progress
-    requires { ⌜ Bounded limits × Sound (now file) p × (items < 4294967295) × (trucks < 4294967295) × (k < limits .stacks)
+    requires { ⌜ Bounded limits × Sound (now file) p × (items < largestWord) × (trucks < largestWord) × (k < limits .stacks)
         × (held ≤ limits .loads) × (length (now part) ≡ 8 * limits .stacks + limits .loads) ⌝ }
     ensures { λ r. ⌜ StackPromise limits items trucks k held (now (file .entry)) p r (now (part .entry)) (now (part .exit)) ⌝ }
 {
@@ -133,7 +134,7 @@ fn read_stacks(
     count: usize,
     part: &mut [u32],
 ) -> Progress
-    requires { ⌜ Bounded limits × Sound (now file) p × (items < 4294967295) × (trucks < 4294967295) × (count ≤ limits .stacks)
+    requires { ⌜ Bounded limits × Sound (now file) p × (items < largestWord) × (trucks < largestWord) × (count ≤ limits .stacks)
         × (length (now part) ≡ 8 * limits .stacks + limits .loads) ⌝ }
     ensures { λ r. ⌜ ReadInto (now (file .entry)) (stackLines (limits .loads) items trucks count [] 0) (planWords limits) p r
         (now (part .exit)) ⌝ }
@@ -164,7 +165,7 @@ pub fn read_plan(
     trucks: u32,
     part: &mut [u32],
 ) -> PlanAnswer
-    requires { ⌜ Bounded limits × (items < 4294967295) × (trucks < 4294967295)
+    requires { ⌜ Bounded limits × (items < largestWord) × (trucks < largestWord)
         × (length (now part) ≡ 8 * limits .stacks + limits .loads) ⌝ }
     ensures { λ r. ⌜ PlanPromise limits items trucks (now (file .entry)) r (now (part .exit)) ⌝ }
 {

@@ -7,6 +7,7 @@ use lib.Dec.{ltb}
 use lib.ListN.{length, take}
 use Rattle.meaning.specs.Lists.{between}
 use Rattle.meaning.specs.Text.{number, commaParts, numbersOf, valueAfter, countBefore}
+use Rattle.meaning.specs.Table.{largestWord}
 use Rattle.text.specs.declared.Parsed.{Parsed}
 use Rattle.text.specs.declared.Parsed.the-variants.{Word, Malformed}
 use Rattle.text.specs.declared.ParsedNumbers.{ParsedNumbers}
@@ -16,7 +17,7 @@ use Rattle.text.specs.declared.ParsedLine.the-variants.{Next, WrongForm}
 
 -- a number as a 32-bit word; the largest word stands for every number that does not fit
 abbrev pub word : ℕ → ℕ
-word n = min n 4294967295
+word n = min n largestWord
 
 -- ---- the answers
 -- of some bytes that are a number, or none
