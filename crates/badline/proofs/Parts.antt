@@ -16,7 +16,7 @@ use Rattle.text.proofs.Bytes.{count-within}
 use Rattle.badline.specs.declared.LineFound.{LineFound}
 use Rattle.badline.specs.declared.LineFound.the-variants.{At, Absent}
 use Rattle.badline.specs.declared.BadLine.{BadLine}
-use Rattle.badline.specs.Places.{spanOf, fileOf, partOf, placeOr, partPointer}
+use Rattle.badline.specs.Located.{spanOf, fileOf, partOf, partFound, partPointer}
 
 -- ---- the number chooses the file
 -- a number that is one of two neighbours
@@ -40,7 +40,7 @@ module _ (instance plan : List ℕ) (number line : ℕ) where
 
 -- where the line was looked for
 pub placed : (instance : List ℕ) (found : LineFound) (plan : Bool) (s : Option Span) → spanOf found ≡ s
-    → placeOr found plan (length instance) ≡ partOr instance (fileOf plan) s
+    → partFound found plan (length instance) ≡ partOr instance (fileOf plan) s
 placed instance (At start end) plan s e = rw (← e)
 placed instance Absent plan s e = rw (← e)
 
@@ -89,7 +89,8 @@ line-within (suc (suc n)) at (b ∷ bs) size h =
     let k = h (omega arith) in
     line-within (suc n) (at + past) (drop past (b ∷ bs)) size (λ more. omega (arith, more, length-drop past (b ∷ bs)))
 
-part-within : (instance plan : List ℕ) (file : File) (s : Option Span) → SpanWithin (length (fileBytes instance plan file)) s → Within instance plan (partOr instance file s)
+part-within : (instance plan : List ℕ) (file : File) (s : Option Span) → SpanWithin (length (fileBytes instance plan file)) s
+    → Within instance plan (partOr instance file s)
 part-within instance plan file none h = record { forward = omega arith; inside = omega arith }
 part-within instance plan file (some s) h = record { forward = h .0; inside = h .1 }
 
@@ -98,7 +99,8 @@ unfolding handedBack
 handed-within instance plan number line = go (eqb number 4 || eqb number 5) (eqb number 7 || eqb number 8)
   where
     go : (a b : Bool)
-        → Within instance plan (cond a (partOr instance inInstance (lineSpan line 0 instance)) (cond b (partOr instance inPlan (lineSpan line 0 plan)) (partOr instance inInstance none)))
+        → Within instance plan (cond a (partOr instance inInstance (lineSpan line 0 instance))
+        (cond b (partOr instance inPlan (lineSpan line 0 plan)) (partOr instance inInstance none)))
     go true b = part-within instance plan inInstance (lineSpan line 0 instance) (line-within line 0 instance (length instance) (λ more. omega arith))
     go false true = part-within instance plan inPlan (lineSpan line 0 plan) (line-within line 0 plan (length plan) (λ more. omega arith))
     go false false = part-within instance plan inInstance none tt

@@ -2,7 +2,7 @@
 ghost use mathlib.Core.Path.{_≡_};
 ghost use denote.Ref.{ptr};
 ghost use Rattle.meaning.specs.BadLine.{lineSpan, handedBack, partBytes};
-ghost use Rattle.badline.specs.Places.{spanOf, partOf, placeOr, partPointer};
+ghost use Rattle.badline.specs.Located.{spanOf, partOf, partFound, partPointer};
 use text::first_byte;
 
 // Where a line stands in its file: from its first byte up to its end, which is not included.
@@ -31,16 +31,16 @@ fn find_line(file: &[u8], line: u32) -> LineFound
     LineFound::Absent
 }
 
-// Which file the bad line stands in, and from where to where.
+// The part of a file that the bad line is: whether that file is the plan, and from where to where.
 pub struct BadLine {
     pub plan: bool,
     pub start: usize,
     pub end: usize,
 }
 
-// The line's place; the empty one at the instance's end where the line is not there.
-fn place_of(found: LineFound, plan: bool, fallback: usize) -> BadLine
-    ensures { λ r. ⌜ partOf r ≡ placeOr found plan fallback ⌝ }
+// The part of a line that was found; the empty part at the instance's end, which is the fallback, where it was not.
+fn part_found(found: LineFound, plan: bool, fallback: usize) -> BadLine
+    ensures { λ r. ⌜ partOf r ≡ partFound found plan fallback ⌝ }
 {
     match found {
         LineFound::At(start, end) => BadLine {
@@ -62,9 +62,9 @@ pub fn locate(instance: &[u8], plan: &[u8], number: u32, line: u32) -> BadLine
 {
     let end = instance.len();
     match number {
-        4 | 5 => place_of(find_line(instance, line), false, end),
-        7 | 8 => place_of(find_line(plan, line), true, end),
-        _ => place_of(LineFound::Absent, false, end),
+        4 | 5 => part_found(find_line(instance, line), false, end),
+        7 | 8 => part_found(find_line(plan, line), true, end),
+        _ => part_found(LineFound::Absent, false, end),
     }
 }
 
@@ -75,10 +75,10 @@ pub fn bad_line<'a>(instance: &'a [u8], plan: &'a [u8], number: u32, line: u32) 
     ensures place { λ r. ⌜ ptr r ≡ partPointer (ptr (instance .entry)) (ptr (plan .entry))
         (handedBack (now (instance .entry)) (now (plan .entry)) number line) ⌝ }
 {
-    let place = locate(instance, plan, number, line);
-    let start = place.start;
-    let end = place.end;
-    if place.plan {
+    let part = locate(instance, plan, number, line);
+    let start = part.start;
+    let end = part.end;
+    if part.plan {
         &plan[start..end]
     } else {
         &instance[start..end]

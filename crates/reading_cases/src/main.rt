@@ -76,12 +76,12 @@ fn byte_checksum(bytes: &[u8]) -> u64 {
 
 // Prints where the bad line of a verdict stands, and what it is.
 fn print_line<'a>(instance: &'a [u8], plan: &'a [u8], number: u32, line: u32) {
-    let place = badline::locate(instance, plan, number, line);
-    let file: u64 = if place.plan { 1 } else { 0 };
+    let part = badline::locate(instance, plan, number, line);
+    let file: u64 = if part.plan { 1 } else { 0 };
     io::write_all(STDOUT_FILENO, b"; ");
     print(file, b" ");
-    print(place.start as u64, b" ");
-    print(place.end as u64, b" ");
+    print(part.start as u64, b" ");
+    print(part.end as u64, b" ");
     print(
         byte_checksum(badline::bad_line(instance, plan, number, line)),
         b"",

@@ -1,7 +1,7 @@
 -- What is handed back are the bytes of the part, which lies within its file.
 use mathlib.Core.Path.{sym, subst}
 use borrow.Author.Needs.{needs}
-use Rattle.badline.specs.Places.{partOf}
+use Rattle.badline.specs.Located.{partOf}
 use Rattle.badline.proofs.Parts.{Within, handed-within, bytes-plan, bytes-instance, pointer-plan, pointer-instance, within-plan, within-instance}
 use Rattle.badline.proofs.bad_line.Statement.{statement}
 use Rattle.badline.proofs.bad_line.Tie as tie

@@ -22,9 +22,9 @@ abbrev pub partOf : BadLine → Part
 partOf r = record { file = fileOf (r .plan); span = span (r .start) (r .end) }
 
 -- the part of a line that was found, or else the empty one at the instance's end
-abbrev pub placeOr : LineFound → Bool → ℕ → Part
-placeOr (At start end) plan fallback = record { file = fileOf plan; span = span start end }
-placeOr Absent plan fallback = record { file = inInstance; span = span fallback fallback }
+abbrev pub partFound : LineFound → Bool → ℕ → Part
+partFound (At start end) plan fallback = record { file = fileOf plan; span = span start end }
+partFound Absent plan fallback = record { file = inInstance; span = span fallback fallback }
 
 -- where a part stands in memory, if its file does: the file's block, and the bytes before the part behind the file's own place
 abbrev pub partPointer : ℕ × ℕ → ℕ × ℕ → Part → ℕ × ℕ
