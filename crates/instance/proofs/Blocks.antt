@@ -39,13 +39,6 @@ regroup (found a n bs) inner next both e = e a n bs
 regroup (wrongForm n) inner next both e = refl
 regroup (outOfRange n) inner next both e = refl
 
--- after a refusal the reader does not matter
-pub same-resumed : {A : Type 0} (file : List ℕ) (p : Progress) (reader : ℕ → Reader A) (a b : ℕ) → (Going p → a ≡ b)
-    → resumed file p (reader a) ≡ resumed file p (reader b)
-same-resumed file (Next at n k) reader a b h = ap (λ (c : ℕ). reader c (suc n) (drop at file)) (h tt)
-same-resumed file (WrongForm n) reader a b h = refl
-same-resumed file (OutOfRange n) reader a b h = refl
-
 -- ---- so many values
 leaves-any : {A : Type 0} (x : Outcome A) → Leaves (λ a rest. Unit {0}) x
 leaves-any (found a n bs) = tt

@@ -11,11 +11,11 @@ use Rattle.meaning.specs.Table.{truckWords}
 use Rattle.lines.specs.declared.Progress.{Progress}
 use Rattle.lines.specs.declared.Progress.the-variants.{Next}
 use Rattle.lines.specs.Progress.{reached, resumed, Going, endedAs, ReadInto}
-use Rattle.lines.proofs.Follow.{going-before}
+use Rattle.lines.proofs.Follow.{going-before, same-resumed}
 use Rattle.trucks.specs.Rows.{rows}
 use Rattle.instance.specs.declared.HeadAnswer.{HeadAnswer}
 use Rattle.instance.specs.Words.{HeadNumbers, headLines, headRow, HeadPromise, instanceFile, instanceWords}
-use Rattle.instance.proofs.Blocks.{past-reader, given-reached, regroup, same-resumed, times-count}
+use Rattle.instance.proofs.Blocks.{past-reader, given-reached, regroup, times-count}
 use Rattle.instance.proofs.HeadLines.{headNumbers, fromInventory, fromExtra, fromItems, fromTrucks}
 use Rattle.lines.proofs.Ended.{ended-reached, ended-going, ended-sound}
 
@@ -64,9 +64,9 @@ module _ (m : Limits) (file : List ℕ) (head : HeadAnswer) (items trucks : Prog
       (sym (head-first m 1 file)
       ∙ past-reader file (Next 0 0 0) (head .progress) numbers (headLines m) afterHead (h .into .says)
       ∙ past-reader file (head .progress) items (i .value) (itemLines (numbers .items)) (afterItems numbers)
-      (i .says ∙ same-resumed file (head .progress) itemLines _ _ (h .items))
+      (i .says ∙ same-resumed file (head .progress) _ _ (λ g. ap itemLines (h .items g)))
       ∙ past-reader file items trucks (t .value) (allTruckLines (numbers .trucks)) (λ ts. give (instanceOf numbers (i .value) ts))
-      (t .says ∙ same-resumed file items allTruckLines _ _ (λ g. h .trucks (head-going g)))
+      (t .says ∙ same-resumed file items _ _ (λ g. ap allTruckLines (h .trucks (head-going g))))
       ∙ given-reached file readAs trucks)
 
   -- the counts in the head are those of the items and trucks

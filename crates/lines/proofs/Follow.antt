@@ -85,6 +85,13 @@ same-reached file a b (Next at n k) h = rw (h tt) refl
 same-reached file a b (WrongForm n) h = refl
 same-reached file a b (OutOfRange n) h = refl
 
+-- nor does the reader
+pub same-resumed : {A : Type 0} (file : List ℕ) (p : Progress) (reader reader′ : Reader A) → (Going p → reader ≡ reader′)
+    → resumed file p reader ≡ resumed file p reader′
+same-resumed {A} file (Next at n k) reader reader′ h = ap (λ (r : Reader A). r (suc n) (drop at file)) (h tt)
+same-resumed file (WrongForm n) reader reader′ h = refl
+same-resumed file (OutOfRange n) reader reader′ h = refl
+
 -- the entries of a line that was not refused meet its form
 pub read-meets : (file ns : List ℕ) (f : Form) (p r : Progress) → reached file ns r ≡ resumed file p (line f) → Going r → Meets f ns
 read-meets file ns f (Next at n k) r e g = read r g (subst (Leaves (λ l rest. Meets f l)) (sym e) (leaves-line f _ (suc n) (drop at file) (λ l rest ms s t m. m)))

@@ -15,7 +15,7 @@ use Rattle.meaning.proofs.Outcomes.{Leaves, leaves-onward, leaves-line}
 use Rattle.lines.specs.declared.Progress.{Progress}
 use Rattle.lines.specs.declared.Progress.the-variants.{Next, WrongForm, OutOfRange}
 use Rattle.lines.specs.Progress.{reached, resumed, Going, entriesOf, Sound, ReadInto, ReadEntries}
-use Rattle.lines.proofs.Follow.{first-reached, then-reached, give-reached, on-reached, going-before, read-meets}
+use Rattle.lines.proofs.Follow.{first-reached, then-reached, give-reached, on-reached, going-before, same-resumed, read-meets}
 use Rattle.plan.specs.Words.{spliced, rowNumbers, oneStack, StackPromise, planWords}
 use Rattle.plan.proofs.StackWords.{takenBy, SixFields, taken-more, loads-more, Stands, stands-none, stands-taken, stands-more, stack-put}
 
@@ -29,13 +29,6 @@ module _ {A : Type 0} (file : List ℕ) (a : A) where
   read-has P (Next at n k) (OutOfRange n′) reader h e g = absurd g
   read-has P (WrongForm n) q reader h e g = absurd (going-before file a (WrongForm n) q reader e g)
   read-has P (OutOfRange n) q reader h e g = absurd (going-before file a (OutOfRange n) q reader e g)
-
-  -- after a refusal the reader does not matter
-  resumed-same : (p q : Progress) (reader reader′ : Reader A) → (Going p → reader ≡ reader′) → reached file a q ≡ resumed file p reader
-      → reached file a q ≡ resumed file p reader′
-  resumed-same (Next at n k) q reader reader′ h e = e ∙ ap (λ (r : Reader A). r (suc n) (drop at file)) (h tt)
-  resumed-same (WrongForm n) q reader reader′ h e = e
-  resumed-same (OutOfRange n) q reader reader′ h e = e
 
 -- what comes behind a reader, whatever that finds
 leaves-then : {A B : Type 0} (P : B → Type 0) (x : Outcome A) (next : A → Reader B) → ((a : A) (n : ℕ) (bs : List ℕ) → Leaves (λ b rest. P b) (next a n bs))
@@ -230,9 +223,9 @@ module _ {m : Limits} {items trucks count : ℕ} {file : List ℕ} {p : Progress
       let left : count - k ≡ suc (count - (k + 1)) = omega arith in
       let before : Going r → Going q = going-before file s q r (oneStack (m .loads) items trucks (rowNumbers k part) held) (one .into .says) in
       let follows : reached file s r ≡ resumed file q (oneStack (m .loads) items trucks (takenBy ss) (length (loadEntries ss))) =
-      resumed-same file s q r _ _ (λ going.
+      one .into .says ∙ same-resumed file q _ _ (λ going.
       let stands = t .stands going in
-      ap₂ (oneStack (m .loads) items trucks) (ap (λ (n : ℕ). rowNumbers n part) (sym (t .many)) ∙ stands-taken stands) (stands .counted)) (one .into .says)
+      ap₂ (oneStack (m .loads) items trucks) (ap (λ (n : ℕ). rowNumbers n part) (sym (t .many)) ∙ stands-taken stands) (stands .counted))
       in
       record {
         stacks = ss ++ s ∷ [];

@@ -10,9 +10,8 @@ use Rattle.meaning.specs.Reader.{Outcome, found, Reader, onward, line, times}
 use Rattle.meaning.specs.Files.{truckLine, productsLine, suppliersLine, docksLine, plantDocksLine, truckLines}
 use Rattle.meaning.specs.Table.{countedWords, truckWords}
 use Rattle.lines.specs.declared.Progress.{Progress}
-use Rattle.lines.specs.declared.Progress.the-variants.{Next, WrongForm, OutOfRange}
-use Rattle.lines.specs.Progress.{reached, resumed, entriesOf, Going, ReadInto, ReadEntries}
-use Rattle.lines.proofs.Follow.{first-reached, then-reached, give-reached}
+use Rattle.lines.specs.Progress.{reached, resumed, entriesOf, ReadInto, ReadEntries}
+use Rattle.lines.proofs.Follow.{first-reached, then-reached, give-reached, same-resumed}
 use Rattle.trucks.specs.Rows.{dockWords}
 use Rattle.trucks.proofs.Repeat.{no-refusal, Front}
 use Rattle.trucks.proofs.Entries.{few-counted}
@@ -32,12 +31,6 @@ afterProducts f p n bs = onward (line suppliersLine n bs) (afterSuppliers f p)
 
 abbrev afterRow : List ℕ → Reader Truck
 afterRow f n bs = onward (line productsLine n bs) (afterProducts f)
-
--- a reader matters only where no line was refused
-same-resumed : {A : Type 0} (file : List ℕ) (q : Progress) (R : ℕ → Reader A) (m n : ℕ) → (Going q → m ≡ n) → resumed file q (R m) ≡ resumed file q (R n)
-same-resumed file (Next at n k) R a b h = rw (h tt) refl
-same-resumed file (WrongForm n) R a b h = refl
-same-resumed file (OutOfRange n) R a b h = refl
 
 -- ---- the words of the five parts, one behind the other
 abbrev partWords : Truck → List ℕ
@@ -78,7 +71,7 @@ module _ {file : List ℕ} {p q₁ q₂ q₃ q₄ q₅ : Progress} {w₁ w₂ w�
       let ss = suppliers .into .value in
       let ds = docks .value in
       let ls = plantDocks .into .value in
-      let each = docks .says ∙ same-resumed file q₃ (λ n. times n (line docksLine)) count (length ss) (λ g. counted ∙ suppliers .count g) in
+      let each = docks .says ∙ same-resumed file q₃ _ _ (λ g. ap (λ (n : ℕ). times n (line docksLine)) (counted ∙ suppliers .count g)) in
       sym (give-reached file ls q₅ (truckOf f ps ss ds))
       ∙ sym (then-reached file ds ls q₄ q₅ (λ d. line plantDocksLine) (λ d l n bs. found (truckOf f ps ss d l) n bs) (plantDocks .into .says))
       ∙ sym (then-reached file ss ds q₃ q₄ (λ s. times (length s) (line docksLine)) (afterDocks f ps) each)
