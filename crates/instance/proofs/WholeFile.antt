@@ -11,7 +11,7 @@ use Rattle.meaning.specs.Table.{truckWords}
 use Rattle.lines.specs.declared.Progress.{Progress}
 use Rattle.lines.specs.declared.Progress.the-variants.{Next}
 use Rattle.lines.specs.Progress.{reached, resumed, Going, endedAs, ReadInto}
-use Rattle.lines.proofs.Follow.{going-before, same-resumed}
+use Rattle.lines.proofs.Follow.{no-refusal, same-resumed}
 use Rattle.trucks.specs.Rows.{rows}
 use Rattle.instance.specs.declared.HeadAnswer.{HeadAnswer}
 use Rattle.instance.specs.Words.{HeadNumbers, headLines, headRow, HeadPromise, instanceFile, instanceWords}
@@ -51,10 +51,10 @@ module _ (m : Limits) (file : List ℕ) (head : HeadAnswer) (items trucks : Prog
 
   -- where the trucks are read, so is what stands before them
   items-going : Going trucks → Going items
-  items-going g = going-before file (t .value) items trucks _ (t .says) g
+  items-going g = no-refusal t g
 
   head-going : Going items → Going (head .progress)
-  head-going g = going-before file (i .value) (head .progress) items _ (i .says) g
+  head-going g = no-refusal i g
 
   lines-say : reached file readAs trucks ≡ resumed file (Next 0 0 0) (instanceLines m)
   lines-say =

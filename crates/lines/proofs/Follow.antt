@@ -79,6 +79,10 @@ going-before file b (OutOfRange n) (Next at′ n′ k′) R e g = let z : _≡_ 
 going-before file b (OutOfRange n) (WrongForm n′) R e g = g
 going-before file b (OutOfRange n) (OutOfRange n′) R e g = g
 
+pub no-refusal : {A : Type 0} {file : List ℕ} {reader : Reader A} {words : A → List ℕ} {p q : Progress} {out : List ℕ}
+    → ReadInto file reader words p q out → Going q → Going p
+no-refusal {file = file} {reader = reader} {p = p} {q = q} i g = going-before file (i .value) p q reader (i .says) g
+
 -- after a refusal the value does not matter
 pub same-reached : {A : Type 0} (file : List ℕ) (a b : A) (p : Progress) → (Going p → a ≡ b) → reached file a p ≡ reached file b p
 same-reached file a b (Next at n k) h = rw (h tt) refl

@@ -15,7 +15,7 @@ use Rattle.meaning.proofs.Outcomes.{Leaves, leaves-onward, leaves-line}
 use Rattle.lines.specs.declared.Progress.{Progress}
 use Rattle.lines.specs.declared.Progress.the-variants.{Next, WrongForm, OutOfRange}
 use Rattle.lines.specs.Progress.{reached, resumed, Going, entriesOf, Sound, ReadInto, ReadEntries}
-use Rattle.lines.proofs.Follow.{first-reached, then-reached, give-reached, on-reached, going-before, same-resumed, read-meets}
+use Rattle.lines.proofs.Follow.{first-reached, then-reached, give-reached, on-reached, going-before, no-refusal, same-resumed, read-meets}
 use Rattle.plan.specs.Words.{spliced, rowNumbers, oneStack, StackPromise, planWords}
 use Rattle.plan.proofs.StackWords.{takenBy, SixFields, taken-more, loads-more, Stands, stands-none, stands-taken, stands-more, stack-put}
 
@@ -176,7 +176,7 @@ module _ (m : Limits) (items trucks k held n : ℕ) (file part₀ part₁ ys : L
                   stack-says (m .loads) items trucks file (rowNumbers k part₀) held p q r (row .value) (load .into .value) (row .says)
                   (rw all at (load .into .says));
               holds = λ going.
-                  let goingRow = going-before file (load .into .value) q r (line (loadLine (length lent) items held)) (load .into .says) going in
+                  let goingRow = no-refusal (load .into) going in
                   let meets = read-meets file (row .value) (stackLine trucks (rowNumbers k part₀)) p q (row .says) goingRow in
                   stack-put m k held n s part₀ part₁ ys (omega (arith, meets .least, meets .most)) h room (counted ∙ load .count going) long same lent-same
                   (row .holds goingRow) (load .into .holds going);
@@ -221,7 +221,6 @@ module _ {m : Limits} {items trucks count : ℕ} {file : List ℕ} {p : Progress
       let s = one .into .value in
       let ss = t .stacks in
       let left : count - k ≡ suc (count - (k + 1)) = omega arith in
-      let before : Going r → Going q = going-before file s q r (oneStack (m .loads) items trucks (rowNumbers k part) held) (one .into .says) in
       let follows : reached file s r ≡ resumed file q (oneStack (m .loads) items trucks (takenBy ss) (length (loadEntries ss))) =
       one .into .says ∙ same-resumed file q _ _ (λ going.
       let stands = t .stands going in
@@ -237,7 +236,7 @@ module _ {m : Limits} {items trucks count : ℕ} {file : List ℕ} {p : Progress
         stands = λ going.
             let six = read-has file s SixFields q r _ (one-six (m .loads) items trucks (rowNumbers k part) held) (one .into .says) going in
             let load : n ≡ length (s .load) = counted ∙ one .count going in
-            let more = stands-more (t .stands (before going)) s six (omega (arith, t .many)) (omega (arith, one .within)) in
+            let more = stands-more (t .stands (no-refusal (one .into) going)) s six (omega (arith, t .many)) (omega (arith, one .within)) in
             rw (load, one .into .holds going, ← t .many) more;
         says = sym (later-next (m .loads) items trucks file ss q (count - (k + 1)) s r follows) ∙ rw left at (t .says);
       }

@@ -12,12 +12,8 @@ use Rattle.meaning.specs.Lists.{padded}
 use Rattle.meaning.specs.Reader.{Reader, onward, times}
 use Rattle.lines.specs.declared.Progress.{Progress}
 use Rattle.lines.specs.Progress.{reached, resumed, Going, Sound, ReadInto}
-use Rattle.lines.proofs.Follow.{going-before, more, times-first, times-next, times-done}
+use Rattle.lines.proofs.Follow.{no-refusal, more, times-first, times-next, times-done}
 use Rattle.trucks.specs.Rows.{rows}
-
--- where reading ends without a refusal it began without one
-pub no-refusal : {A : Type 0} {file : List ℕ} {R : Reader A} {w : A → List ℕ} {p q : Progress} {out : List ℕ} → ReadInto file R w p q out → Going q → Going p
-no-refusal {file = file} {R = R} {p = p} {q = q} a g = going-before file (a .value) p q R (a .says) g
 
 -- ---- words in front and zeros behind them
 -- the words `ws` fill the part `out` up to the place `at`

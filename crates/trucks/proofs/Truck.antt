@@ -11,9 +11,9 @@ use Rattle.meaning.specs.Files.{truckLine, productsLine, suppliersLine, docksLi
 use Rattle.meaning.specs.Table.{countedWords, truckWords}
 use Rattle.lines.specs.declared.Progress.{Progress}
 use Rattle.lines.specs.Progress.{reached, resumed, entriesOf, ReadInto, ReadEntries}
-use Rattle.lines.proofs.Follow.{first-reached, then-reached, give-reached, same-resumed}
+use Rattle.lines.proofs.Follow.{first-reached, then-reached, give-reached, no-refusal, same-resumed}
 use Rattle.trucks.specs.Rows.{dockWords}
-use Rattle.trucks.proofs.Repeat.{no-refusal, Front}
+use Rattle.trucks.proofs.Repeat.{Front}
 use Rattle.trucks.proofs.Entries.{few-counted}
 
 -- ---- what is left to read after each line, with what was read before it
