@@ -8,7 +8,7 @@ use Rattle.meaning.proofs.Outcomes.{Leaves, leaves-onward}
 use Rattle.lines.specs.declared.Progress.{Progress}
 use Rattle.lines.specs.declared.Progress.the-variants.{Next, WrongForm, OutOfRange}
 use Rattle.lines.specs.Progress.{reached, resumed, Going}
-use Rattle.lines.proofs.Follow.{first-reached}
+use Rattle.lines.proofs.Follow.{onward-same, onward-twice, first-reached}
 
 module _ {A : Type 0} (file : List ℕ) where
   -- from what is reached on, the value is known
@@ -34,10 +34,7 @@ module _ {A : Type 0} (file : List ℕ) where
 -- a block within a block
 pub regroup : {A B C : Type 0} (x : Outcome A) (inner : A → Reader B) (next : B → Reader C) (both : A → Reader C)
     → ((a : A) (n : ℕ) (bs : List ℕ) → onward (inner a n bs) next ≡ both a n bs) → onward (onward x inner) next ≡ onward x both
-unfolding onward
-regroup (found a n bs) inner next both e = e a n bs
-regroup (wrongForm n) inner next both e = refl
-regroup (outOfRange n) inner next both e = refl
+regroup x inner next both e = onward-twice x inner next ∙ onward-same x _ both e
 
 -- ---- so many values
 leaves-any : {A : Type 0} (x : Outcome A) → Leaves (λ a rest. Unit {0}) x

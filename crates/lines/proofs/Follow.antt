@@ -14,14 +14,14 @@ use Rattle.lines.specs.Progress.{reached, resumed, Going, ReadInto}
 
 -- ---- outcomes
 -- going on in the same way
-onward-same : {A B : Type 0} (x : Outcome A) (f g : A → Reader B) → ((a : A) (n : ℕ) (bs : List ℕ) → f a n bs ≡ g a n bs) → onward x f ≡ onward x g
+pub onward-same : {A B : Type 0} (x : Outcome A) (f g : A → Reader B) → ((a : A) (n : ℕ) (bs : List ℕ) → f a n bs ≡ g a n bs) → onward x f ≡ onward x g
 unfolding onward
 onward-same (found a n bs) f g h = h a n bs
 onward-same (wrongForm n) f g h = refl
 onward-same (outOfRange n) f g h = refl
 
 -- going on twice
-onward-twice : {A B C : Type 0} (x : Outcome A) (f : A → Reader B) (g : B → Reader C)
+pub onward-twice : {A B C : Type 0} (x : Outcome A) (f : A → Reader B) (g : B → Reader C)
     → onward (onward x f) g ≡ onward x (λ a n bs. onward (f a n bs) g)
 unfolding onward
 onward-twice (found a n bs) f g = refl
@@ -29,7 +29,7 @@ onward-twice (wrongForm n) f g = refl
 onward-twice (outOfRange n) f g = refl
 
 -- going on without reading changes nothing
-onward-give : {A : Type 0} (x : Outcome A) → onward x (λ a n bs. found a n bs) ≡ x
+pub onward-give : {A : Type 0} (x : Outcome A) → onward x (λ a n bs. found a n bs) ≡ x
 unfolding onward
 onward-give (found a n bs) = refl
 onward-give (wrongForm n) = refl

@@ -15,7 +15,7 @@ use Rattle.meaning.proofs.Outcomes.{Leaves, leaves-onward, leaves-line}
 use Rattle.lines.specs.declared.Progress.{Progress}
 use Rattle.lines.specs.declared.Progress.the-variants.{Next, WrongForm, OutOfRange}
 use Rattle.lines.specs.Progress.{reached, resumed, Going, entriesOf, Sound, ReadInto, ReadEntries}
-use Rattle.lines.proofs.Follow.{first-reached, then-reached, give-reached, on-reached, going-before, no-refusal, same-resumed, read-meets}
+use Rattle.lines.proofs.Follow.{onward-same, onward-twice, onward-give, first-reached, then-reached, give-reached, on-reached, going-before, no-refusal, same-resumed, read-meets}
 use Rattle.plan.specs.Words.{spliced, rowNumbers, oneStack, StackPromise, planWords}
 use Rattle.plan.proofs.StackWords.{takenBy, SixFields, taken-more, loads-more, Stands, stands-none, stands-taken, stands-more, stack-put}
 
@@ -82,12 +82,7 @@ module _ (most items trucks : ℕ) where
   -- before the first
   later-first : (file : List ℕ) (count : ℕ) (p : Progress) → onward (reached file [] p) (later count) ≡ resumed file p (stackLines most items trucks count [] 0)
   unfolding onward takenBy loadEntries flatMap
-  later-first file count (Next at n k) = unchanged (stackLines most items trucks count [] 0 (suc n) (drop at file))
-    where
-      unchanged : (x : Outcome (List Stack)) → onward x (λ rest. give rest) ≡ x
-      unchanged (found ss n bs) = refl
-      unchanged (wrongForm n) = refl
-      unchanged (outOfRange n) = refl
+  later-first file count (Next at n k) = onward-give (stackLines most items trucks count [] 0 (suc n) (drop at file))
   later-first file count (WrongForm n) = refl
   later-first file count (OutOfRange n) = refl
 
@@ -108,9 +103,8 @@ module _ (most items trucks : ℕ) where
 
       by-rest : (s : Stack) (x : Outcome (List Stack))
           → onward (onward x (λ rest. give (s ∷ rest))) (λ rest. give (ss ++ rest)) ≡ onward x (λ rest. give ((ss ++ s ∷ []) ++ rest))
-      by-rest s (found rest n bs) = ap (λ (l : List Stack). found l n bs) (sym (append-assoc ss (s ∷ []) rest))
-      by-rest s (wrongForm n) = refl
-      by-rest s (outOfRange n) = refl
+      by-rest s x =
+          onward-twice x _ _ ∙ onward-same x _ _ (λ rest n bs. ap (λ (l : List Stack). found l n bs) (sym (append-assoc ss (s ∷ []) rest)))
 
       by-load : (fields : List ℕ) (x : Outcome (List ℕ))
           → onward (onward x (λ load n bs. onward (behind fields load n bs) (λ rest. give (stackOf fields load ∷ rest)))) (λ rest. give (ss ++ rest))

@@ -14,7 +14,7 @@ use Rattle.meaning.specs.declared.Place.{Place}
 use Rattle.meaning.specs.declared.Answer.{Answer}
 use Rattle.meaning.specs.Limits.{stacksAt, named}
 use Rattle.meaning.specs.Model.{Instance, Stack}
-use Rattle.meaning.specs.Reader.{Outcome, found, wrongForm, outOfRange, Reader, _>>=_, onward, atEnd, wholeFile}
+use Rattle.meaning.specs.Reader.{Outcome, found, wrongForm, outOfRange, onward, atEnd, wholeFile}
 use Rattle.meaning.specs.Files.{_to_, numberLine, instanceLines, stackLines, planLines}
 use Rattle.meaning.specs.Table.{headWords, stackWords, loadEntries, words, instanceIn}
 use Rattle.meaning.specs.InRange.{InRange, InstanceInRange}
@@ -31,6 +31,7 @@ use Rattle.table.proofs.Fill.{words-filled}
 use Rattle.lines.specs.declared.Progress.{Progress}
 use Rattle.lines.specs.declared.Progress.the-variants.{Next, WrongForm, OutOfRange}
 use Rattle.lines.specs.Progress.{reached, ReadInto}
+use Rattle.lines.proofs.Follow.{onward-twice}
 use Rattle.instance.specs.Words.{instanceFile, instanceWords}
 use Rattle.plan.specs.declared.PlanAnswer.{PlanAnswer}
 use Rattle.plan.specs.Words.{planWords, planFile, PlanPromise}
@@ -97,17 +98,10 @@ module _ (m : Limits) (i : Instance) (r : InstanceInRange m i) where
       rw (front, none-left, append-nil (planWords m p)) (stack-words m i p)
 
 -- ---- what reading a file says
--- a reader of three parts may be taken apart at either seam
-onward-onward : {A B C : Type 0} (r : Outcome A) (f : A → Reader B) (g : B → Reader C) → onward r (λ a. f a >>= g) ≡ onward (onward r f) g
-unfolding onward
-onward-onward (found a n rest) f g = refl
-onward-onward (wrongForm n) f g = refl
-onward-onward (outOfRange n) f g = refl
-
 plan-file : (m : Limits) (i : Instance) (file : List ℕ) → planFile m (length (i .items)) (length (i .trucks)) 1 file ≡ wholeFile (planLines m i) file
 unfolding planFile planLines wholeFile
 plan-file m i file =
-    onward-onward (numberLine "stacks=" (0 to m .stacks) 1 file) (λ n. stackLines (m .loads) (length (i .items)) (length (i .trucks)) n [] 0) atEnd
+    sym (onward-twice (numberLine "stacks=" (0 to m .stacks) 1 file) (λ n. stackLines (m .loads) (length (i .items)) (length (i .trucks)) n [] 0) atEnd)
 
 -- what a whole file is read as was found, and nothing is left
 whole-finds : {A : Type 0} (r : Outcome A) (a : A) (n : ℕ) (rest : List ℕ) → found a n rest ≡ onward r atEnd → Finds (Wholly a) r
