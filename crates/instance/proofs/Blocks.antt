@@ -1,14 +1,14 @@
 -- A block of readers, followed from answer to answer.
-use mathlib.Core.Path.{_≡_, refl, sym, ap, subst, _∙_}
+use mathlib.Core.Path.{_≡_, refl, sym, ap, _∙_}
 use mathlib.Core.List.{List}
 use Prim.Native.Nat.{ℕ, zero, suc}
-use lib.ListN.{length, drop}
-use Rattle.meaning.specs.Reader.{Outcome, found, wrongForm, outOfRange, Reader, give, onward, _>>=_, times}
+use lib.ListN.{length}
+use Rattle.meaning.specs.Reader.{Outcome, Reader, give, onward, _>>=_, times}
 use Rattle.meaning.proofs.Outcomes.{Leaves, leaves-onward}
 use Rattle.lines.specs.declared.Progress.{Progress}
 use Rattle.lines.specs.declared.Progress.the-variants.{Next, WrongForm, OutOfRange}
 use Rattle.lines.specs.Progress.{reached, resumed, Going}
-use Rattle.lines.proofs.Follow.{onward-same, onward-twice, first-reached}
+use Rattle.lines.proofs.Follow.{onward-same, onward-twice, leaves-then, first-reached, read-has}
 
 module _ {A : Type 0} (file : List ℕ) where
   -- from what is reached on, the value is known
@@ -37,27 +37,14 @@ pub regroup : {A B C : Type 0} (x : Outcome A) (inner : A → Reader B) (next : 
 regroup x inner next both e = onward-twice x inner next ∙ onward-same x _ both e
 
 -- ---- so many values
-leaves-any : {A : Type 0} (x : Outcome A) → Leaves (λ a rest. Unit {0}) x
-leaves-any (found a n bs) = tt
-leaves-any (wrongForm n) = tt
-leaves-any (outOfRange n) = tt
-
 module _ {A : Type 0} (reader : Reader A) where
   leaves-times : (k n : ℕ) (bs : List ℕ) → Leaves (λ vs rest. length vs ≡ k) (times k reader n bs)
   unfolding times
   leaves-times zero n bs = refl
   leaves-times (suc k) n bs =
-      leaves-onward (λ a rest. Unit {0}) _ (reader n bs) _ (leaves-any (reader n bs)) (λ a n bs u.
+      leaves-then (λ (vs : List A). length vs ≡ suc k) (reader n bs) _ (λ a n bs.
       leaves-onward (λ vs rest. length vs ≡ k) _ (times k reader n bs) _ (leaves-times k n bs) (λ vs n bs e. ap suc e))
 
-  module _ (file : List ℕ) (k : ℕ) where
-    leaves-resumed : (p : Progress) → Leaves (λ vs rest. length vs ≡ k) (resumed file p (times k reader))
-    leaves-resumed (Next at n e) = leaves-times k (suc n) (drop at file)
-    leaves-resumed (WrongForm n) = tt
-    leaves-resumed (OutOfRange n) = tt
-
-    -- what is read some times over is as many values
-    pub times-count : (p r : Progress) (vs : List A) → reached file vs r ≡ resumed file p (times k reader) → Going r → length vs ≡ k
-    times-count p (Next at n e) vs says g = subst (Leaves (λ vs rest. length vs ≡ k)) (sym says) (leaves-resumed p)
-    times-count p (WrongForm n) vs says g = absurd g
-    times-count p (OutOfRange n) vs says g = absurd g
+  -- what is read some times over is as many values
+  pub times-count : (file : List ℕ) (k : ℕ) (p r : Progress) (vs : List A) → reached file vs r ≡ resumed file p (times k reader) → Going r → length vs ≡ k
+  times-count file k p r vs says g = read-has file vs (λ vs. length vs ≡ k) p r (times k reader) (leaves-times k) says g

@@ -35,6 +35,14 @@ onward-give (found a n bs) = refl
 onward-give (wrongForm n) = refl
 onward-give (outOfRange n) = refl
 
+-- what comes behind a reader, whatever that finds
+pub leaves-then : {A B : Type 0} (P : B → Type 0) (x : Outcome A) (next : A → Reader B) → ((a : A) (n : ℕ) (bs : List ℕ) → Leaves (λ b rest. P b) (next a n bs))
+    → Leaves (λ b rest. P b) (onward x next)
+unfolding onward
+leaves-then P (found a n bs) next h = h a n bs
+leaves-then P (wrongForm n) next h = tt
+leaves-then P (outOfRange n) next h = tt
+
 -- ---- one reader after another
 -- what is done to the value first may be done to it on the way
 pub on-reached : {A B C : Type 0} (file : List ℕ) (a : A) (p : Progress) (g : A → B) (K : B → Reader C)
@@ -96,16 +104,18 @@ same-resumed {A} file (Next at n k) reader reader′ h = ap (λ (r : Reader A). 
 same-resumed file (WrongForm n) reader reader′ h = refl
 same-resumed file (OutOfRange n) reader reader′ h = refl
 
+-- what a reader always leaves is so of what was read
+pub read-has : {A : Type 0} (file : List ℕ) (a : A) (P : A → Type 0) (p q : Progress) (reader : Reader A) → ((n : ℕ) (bs : List ℕ) → Leaves (λ x rest. P x) (reader n bs))
+    → reached file a q ≡ resumed file p reader → Going q → P a
+read-has file a P (Next at n k) (Next at′ n′ k′) reader h e g = subst (Leaves (λ x rest. P x)) (sym e) (h (suc n) (drop at file))
+read-has file a P (Next at n k) (WrongForm n′) reader h e g = absurd g
+read-has file a P (Next at n k) (OutOfRange n′) reader h e g = absurd g
+read-has file a P (WrongForm n) q reader h e g = absurd (going-before file a (WrongForm n) q reader e g)
+read-has file a P (OutOfRange n) q reader h e g = absurd (going-before file a (OutOfRange n) q reader e g)
+
 -- the entries of a line that was not refused meet its form
 pub read-meets : (file ns : List ℕ) (f : Form) (p r : Progress) → reached file ns r ≡ resumed file p (line f) → Going r → Meets f ns
-read-meets file ns f (Next at n k) r e g = read r g (subst (Leaves (λ l rest. Meets f l)) (sym e) (leaves-line f _ (suc n) (drop at file) (λ l rest ms s t m. m)))
-  where
-    read : (r : Progress) → Going r → Leaves (λ l rest. Meets f l) (reached file ns r) → Meets f ns
-    read (Next at n k) g m = m
-    read (WrongForm n) g m = absurd g
-    read (OutOfRange n) g m = absurd g
-read-meets file ns f (WrongForm n) r e g = absurd (going-before file ns (WrongForm n) r (line f) e g)
-read-meets file ns f (OutOfRange n) r e g = absurd (going-before file ns (OutOfRange n) r (line f) e g)
+read-meets file ns f p r e g = read-has file ns (Meets f) p r (line f) (λ n bs. leaves-line f _ n bs (λ l rest ms s t m. m)) e g
 
 -- what is read into a part is read into the whole
 pub read-within : {A : Type 0} (file : List ℕ) (reader : Reader A) (words : A → List ℕ) (p r : Progress) (out : List ℕ) (whole : List ℕ → List ℕ)

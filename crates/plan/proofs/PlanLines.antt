@@ -9,10 +9,10 @@ use Rattle.meaning.specs.Files.{stackLines, numberLine, _to_}
 use Rattle.lines.specs.declared.Progress.{Progress}
 use Rattle.lines.specs.declared.Progress.the-variants.{Next}
 use Rattle.lines.specs.Progress.{reached, resumed, Going, endedAs, ReadInto}
-use Rattle.lines.proofs.Follow.{first-reached, then-reached}
+use Rattle.lines.proofs.Follow.{first-reached, then-reached, read-has}
 use Rattle.lines.proofs.Ended.{ended-reached, ended-sound, ended-going}
 use Rattle.plan.specs.Words.{planWords, planFile, PlanPromise}
-use Rattle.plan.proofs.StackLines.{read-has, so-many}
+use Rattle.plan.proofs.StackLines.{so-many}
 
 module _ (m : Limits) (items trucks : ℕ) (file part : List ℕ) (count : ℕ) (p q r : Progress) where
   pub plan-read : reached file count p ≡ resumed file (Next 0 0 0) (numberLine "stacks=" (0 to m .stacks))

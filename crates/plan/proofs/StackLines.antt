@@ -1,5 +1,5 @@
 -- The lines of the stacks, followed one stack after another: what is found has its form's sizes, and the state of a loop that reads them.
-use mathlib.Core.Path.{_≡_, refl, sym, ap, ap₂, subst, _∙_}
+use mathlib.Core.Path.{_≡_, refl, sym, ap, ap₂, _∙_}
 use mathlib.Core.List.{List, [], _∷_, _++_, flatMap, append-assoc, append-nil}
 use Prim.Native.Nat.{ℕ, zero, suc, _+_, _-_, _*_, _≤_, _<_}
 use native.Mathlib.Nat.{sub-zero}
@@ -15,28 +15,9 @@ use Rattle.meaning.proofs.Outcomes.{Leaves, leaves-onward, leaves-line}
 use Rattle.lines.specs.declared.Progress.{Progress}
 use Rattle.lines.specs.declared.Progress.the-variants.{Next, WrongForm, OutOfRange}
 use Rattle.lines.specs.Progress.{reached, resumed, Going, entriesOf, Sound, ReadInto, ReadEntries}
-use Rattle.lines.proofs.Follow.{onward-same, onward-twice, onward-give, first-reached, then-reached, give-reached, on-reached, going-before, no-refusal, same-resumed, read-meets}
+use Rattle.lines.proofs.Follow.{onward-same, onward-twice, onward-give, leaves-then, first-reached, then-reached, give-reached, on-reached, no-refusal, same-resumed, read-has, read-meets}
 use Rattle.plan.specs.Words.{spliced, rowNumbers, oneStack, StackPromise, planWords}
 use Rattle.plan.proofs.StackWords.{takenBy, SixFields, taken-more, loads-more, Stands, stands-none, stands-taken, stands-more, stack-put}
-
--- ---- what readers find
-module _ {A : Type 0} (file : List ℕ) (a : A) where
-  -- what a reader always leaves is so of what was read
-  pub read-has : (P : A → Type 0) (p q : Progress) (reader : Reader A) → ((n : ℕ) (bs : List ℕ) → Leaves (λ x rest. P x) (reader n bs))
-      → reached file a q ≡ resumed file p reader → Going q → P a
-  read-has P (Next at n k) (Next at′ n′ k′) reader h e g = subst (Leaves (λ x rest. P x)) (sym e) (h (suc n) (drop at file))
-  read-has P (Next at n k) (WrongForm n′) reader h e g = absurd g
-  read-has P (Next at n k) (OutOfRange n′) reader h e g = absurd g
-  read-has P (WrongForm n) q reader h e g = absurd (going-before file a (WrongForm n) q reader e g)
-  read-has P (OutOfRange n) q reader h e g = absurd (going-before file a (OutOfRange n) q reader e g)
-
--- what comes behind a reader, whatever that finds
-leaves-then : {A B : Type 0} (P : B → Type 0) (x : Outcome A) (next : A → Reader B) → ((a : A) (n : ℕ) (bs : List ℕ) → Leaves (λ b rest. P b) (next a n bs))
-    → Leaves (λ b rest. P b) (onward x next)
-unfolding onward
-leaves-then P (found a n bs) next h = h a n bs
-leaves-then P (wrongForm n) next h = tt
-leaves-then P (outOfRange n) next h = tt
 
 -- a stack of its two lines
 abbrev stackOf : List ℕ → List ℕ → Stack
