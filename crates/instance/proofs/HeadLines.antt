@@ -10,8 +10,8 @@ use Rattle.meaning.specs.Files.{Range, _to_, numberLine}
 use Rattle.lines.specs.declared.Progress.{Progress}
 use Rattle.lines.specs.declared.NumberAnswer.{NumberAnswer}
 use Rattle.lines.specs.Progress.{reached, resumed}
+use Rattle.lines.proofs.Follow.{past-reader, given-reached}
 use Rattle.instance.specs.Words.{HeadNumbers, headLines, headRow}
-use Rattle.instance.proofs.Blocks.{past-reader, given-reached}
 
 abbrev pub headNumbers : ℕ → ℕ → ℕ → ℕ → ℕ → HeadNumbers
 headNumbers αT αI αE items trucks = record { αT = αT; αI = αI; αE = αE; items = items; trucks = trucks }

@@ -1,5 +1,4 @@
 pub mod Items
-pub mod Blocks
 pub mod HeadLines
 pub mod Parts
 pub mod WholeFile

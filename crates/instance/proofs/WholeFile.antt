@@ -11,11 +11,10 @@ use Rattle.meaning.specs.Table.{truckWords}
 use Rattle.lines.specs.declared.Progress.{Progress}
 use Rattle.lines.specs.declared.Progress.the-variants.{Next}
 use Rattle.lines.specs.Progress.{reached, resumed, Going, endedAs, ReadInto}
-use Rattle.lines.proofs.Follow.{no-refusal, same-resumed}
+use Rattle.lines.proofs.Follow.{regroup, past-reader, given-reached, no-refusal, same-resumed, times-count}
 use Rattle.trucks.specs.Rows.{rows}
 use Rattle.instance.specs.declared.HeadAnswer.{HeadAnswer}
 use Rattle.instance.specs.Words.{HeadNumbers, headLines, headRow, HeadPromise, instanceFile, instanceWords}
-use Rattle.instance.proofs.Blocks.{past-reader, given-reached, regroup, times-count}
 use Rattle.instance.proofs.HeadLines.{headNumbers, fromInventory, fromExtra, fromItems, fromTrucks}
 use Rattle.lines.proofs.Ended.{ended-reached, ended-going, ended-sound}
 

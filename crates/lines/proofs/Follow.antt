@@ -1,13 +1,13 @@
 -- From one answer to the next: readers one after another, and the same reader some times over, for callers that hand an answer on.
 use mathlib.Core.Path.{_≡_, refl, sym, ap, subst, _∙_}
 use mathlib.Core.List.{List, [], _∷_, _++_, append-assoc, append-nil}
-use Prim.Native.Nat.{ℕ, suc}
+use Prim.Native.Nat.{ℕ, zero, suc}
 use native.Mathlib.Omega.{arith}
-use lib.ListN.{drop}
+use lib.ListN.{length, drop}
 use Rattle.meaning.specs.Text.{Form}
-use Rattle.meaning.specs.Reader.{Outcome, found, wrongForm, outOfRange, Reader, onward, line, times}
+use Rattle.meaning.specs.Reader.{Outcome, found, wrongForm, outOfRange, Reader, give, onward, _>>=_, line, times}
 use Rattle.meaning.specs.InRange.{Meets}
-use Rattle.meaning.proofs.Outcomes.{Leaves, leaves-line}
+use Rattle.meaning.proofs.Outcomes.{Leaves, leaves-onward, leaves-line}
 use Rattle.lines.specs.declared.Progress.{Progress}
 use Rattle.lines.specs.declared.Progress.the-variants.{Next, WrongForm, OutOfRange}
 use Rattle.lines.specs.Progress.{reached, resumed, Going, ReadInto}
@@ -28,6 +28,11 @@ onward-twice (found a n bs) f g = refl
 onward-twice (wrongForm n) f g = refl
 onward-twice (outOfRange n) f g = refl
 
+-- a block within a block
+pub regroup : {A B C : Type 0} (x : Outcome A) (inner : A → Reader B) (next : B → Reader C) (both : A → Reader C)
+    → ((a : A) (n : ℕ) (bs : List ℕ) → onward (inner a n bs) next ≡ both a n bs) → onward (onward x inner) next ≡ onward x both
+regroup x inner next both e = onward-twice x inner next ∙ onward-same x _ both e
+
 -- going on without reading changes nothing
 pub onward-give : {A : Type 0} (x : Outcome A) → onward x (λ a n bs. found a n bs) ≡ x
 unfolding onward
@@ -44,6 +49,28 @@ leaves-then P (wrongForm n) next h = tt
 leaves-then P (outOfRange n) next h = tt
 
 -- ---- one reader after another
+module _ {A : Type 0} (file : List ℕ) where
+  -- from what is reached on, the value is known
+  pub onward-reached : {B : Type 0} (a : A) (q : Progress) (next : A → Reader B) → onward (reached file a q) next ≡ resumed file q (next a)
+  unfolding onward
+  onward-reached a (Next at n k) next = refl
+  onward-reached a (WrongForm n) next = refl
+  onward-reached a (OutOfRange n) next = refl
+
+  -- past the first reader of a block
+  pub past-reader : {B : Type 0} (p q : Progress) (a : A) (reader : Reader A) (next : A → Reader B) → reached file a q ≡ resumed file p reader
+      → resumed file p (reader >>= next) ≡ resumed file q (next a)
+  unfolding onward
+  past-reader {B} (Next at n k) q a reader next e = ap {B = Outcome B} (λ x. onward x next) (sym e) ∙ onward-reached a q next
+  past-reader {B} (WrongForm n) q a reader next e = ap {B = Outcome B} (λ x. onward x next) (sym e) ∙ onward-reached a q next
+  past-reader {B} (OutOfRange n) q a reader next e = ap {B = Outcome B} (λ x. onward x next) (sym e) ∙ onward-reached a q next
+
+  -- a block that only gives a value has reached it
+  pub given-reached : (a : A) (q : Progress) → resumed file q (give a) ≡ reached file a q
+  given-reached a (Next at n k) = refl
+  given-reached a (WrongForm n) = refl
+  given-reached a (OutOfRange n) = refl
+
 -- what is done to the value first may be done to it on the way
 pub on-reached : {A B C : Type 0} (file : List ℕ) (a : A) (p : Progress) (g : A → B) (K : B → Reader C)
     → onward (reached file a p) (λ x. K (g x)) ≡ onward (reached file (g a) p) K
@@ -129,6 +156,13 @@ module _ {A : Type 0} (R : Reader A) where
   abbrev pub more : ℕ → List A → Reader (List A)
   more m vs n bs = onward (times m R n bs) (λ rest n bs. found (vs ++ rest) n bs)
 
+  leaves-times : (k n : ℕ) (bs : List ℕ) → Leaves (λ vs rest. length vs ≡ k) (times k R n bs)
+  unfolding times
+  leaves-times zero n bs = refl
+  leaves-times (suc k) n bs =
+      leaves-then (λ (vs : List A). length vs ≡ suc k) (R n bs) _ (λ a n bs.
+      leaves-onward (λ vs rest. length vs ≡ k) _ (times k R n bs) _ (leaves-times k n bs) (λ vs n bs e. ap suc e))
+
   -- one of them, and then one fewer
   more-one : (m : ℕ) (vs : List A) (n : ℕ) (bs : List ℕ) → more (suc m) vs n bs ≡ onward (R n bs) (λ v. more m (vs ++ v ∷ []))
   unfolding times
@@ -139,6 +173,10 @@ module _ {A : Type 0} (R : Reader A) where
       ∙ onward-same (times m R n₁ bs₁) _ _ (λ rest n₂ bs₂. ap (λ (l : List A). found l n₂ bs₂) (sym (append-assoc vs (v ∷ []) rest))))
 
   module _ (file : List ℕ) where
+    -- as many values as times
+    pub times-count : (k : ℕ) (p r : Progress) (vs : List A) → reached file vs r ≡ resumed file p (times k R) → Going r → length vs ≡ k
+    times-count k p r vs says g = read-has file vs (λ vs. length vs ≡ k) p r (times k R) (leaves-times k) says g
+
     -- before the first
     pub times-first : (n : ℕ) (p : Progress) → onward (reached file [] p) (more n) ≡ resumed file p (times n R)
     unfolding onward
