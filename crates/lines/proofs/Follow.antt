@@ -71,39 +71,6 @@ module _ {A : Type 0} (file : List ℕ) where
   given-reached a (WrongForm n) = refl
   given-reached a (OutOfRange n) = refl
 
--- what is done to the value first may be done to it on the way
-pub on-reached : {A B C : Type 0} (file : List ℕ) (a : A) (p : Progress) (g : A → B) (K : B → Reader C)
-    → onward (reached file a p) (λ x. K (g x)) ≡ onward (reached file (g a) p) K
-unfolding onward
-on-reached file a (Next at n k) g K = refl
-on-reached file a (WrongForm n) g K = refl
-on-reached file a (OutOfRange n) g K = refl
-
--- the last reader of a block only gives a value
-pub give-reached : {A B : Type 0} (file : List ℕ) (a : A) (p : Progress) (g : A → B)
-    → onward (reached file a p) (λ x n bs. found (g x) n bs) ≡ reached file (g a) p
-unfolding onward
-give-reached file a (Next at n k) g = refl
-give-reached file a (WrongForm n) g = refl
-give-reached file a (OutOfRange n) g = refl
-
--- the first reader of a block
-pub first-reached : {A B : Type 0} (file : List ℕ) (p : Progress) (R : Reader A) (K : A → Reader B)
-    → resumed file p (λ n bs. onward (R n bs) K) ≡ onward (resumed file p R) K
-unfolding onward
-first-reached file (Next at n k) R K = refl
-first-reached file (WrongForm n) R K = refl
-first-reached file (OutOfRange n) R K = refl
-
--- two readers, one after the other: what the second has reached decides
-pub then-reached : {A B C : Type 0} (file : List ℕ) (a : A) (b : B) (p q : Progress) (Y : A → Reader B) (K : A → B → Reader C)
-    → reached file b q ≡ resumed file p (Y a)
-    → onward (reached file a p) (λ x n bs. onward (Y x n bs) (K x)) ≡ onward (reached file b q) (K a)
-unfolding onward
-then-reached file a b (Next at n k) q Y K e = rw e
-then-reached file a b (WrongForm n) q Y K e = rw e
-then-reached file a b (OutOfRange n) q Y K e = rw e
-
 -- a refusal stays: where none came out, none came in
 pub going-before : {B : Type 0} (file : List ℕ) (b : B) (p q : Progress) (R : Reader B) → reached file b q ≡ resumed file p R → Going q → Going p
 going-before file b (Next at n k) q R e g = tt
@@ -189,8 +156,9 @@ module _ {A : Type 0} (R : Reader A) where
         → onward (reached file vs q) (more (suc m)) ≡ onward (reached file (vs ++ v ∷ []) q′) (more m)
     times-next vs v m q q′ e =
         onward-same (reached file vs q) (more (suc m)) _ (more-one m)
-        ∙ then-reached file vs v q q′ (λ x. R) (λ x w. more m (x ++ w ∷ [])) e
-        ∙ on-reached file v q′ (λ w. vs ++ w ∷ []) (more m)
+        ∙ onward-reached file vs q _
+        ∙ past-reader file q q′ v R (λ w. more m (vs ++ w ∷ [])) e
+        ∙ sym (onward-reached file (vs ++ v ∷ []) q′ (more m))
 
     -- after the last
     pub times-done : (vs : List A) (q : Progress) → onward (reached file vs q) (more 0) ≡ reached file vs q

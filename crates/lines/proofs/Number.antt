@@ -4,13 +4,13 @@ use mathlib.Core.List.{List, [], _∷_}
 use Prim.Native.Nat.{ℕ, _≤_}
 use native.Mathlib.Omega.{arith}
 use lib.ListN.{getD, List·getD-eq-default}
-use Rattle.meaning.specs.Reader.{Outcome, found, onward, line}
+use Rattle.meaning.specs.Reader.{give, line}
 use Rattle.meaning.specs.Files.{_to_, rowLine, numberLine}
 use Rattle.meaning.proofs.Fields.{field-within}
 use Rattle.lines.specs.declared.Progress.{Progress}
 use Rattle.lines.specs.declared.Progress.the-variants.{Next, WrongForm, OutOfRange}
 use Rattle.lines.specs.Progress.{Key, reached, resumed, entriesOf, Going, ReadEntries}
-use Rattle.lines.proofs.Follow.{give-reached, first-reached, same-reached, read-meets}
+use Rattle.lines.proofs.Follow.{past-reader, given-reached, same-reached, read-meets}
 
 -- a line with entries was not refused
 pub going-entries : (r : Progress) → (entriesOf r ≡ 0 → ⊥) → Going r
@@ -26,9 +26,8 @@ module _ (file out : List ℕ) (k : Key) (low high : ℕ) (p r : Progress)
   says n h =
       let f = rowLine k (low to high ∷ []) in
       same-reached file n (getD (read .into .value) 0 0) r h
-      ∙ sym (give-reached file (read .into .value) r (λ ns. getD ns 0 0))
-      ∙ ap (λ (x : Outcome (List ℕ)). onward x (λ ns n bs. found (getD ns 0 0) n bs)) (read .into .says)
-      ∙ sym (first-reached file p (line f) (λ ns n bs. found (getD ns 0 0) n bs))
+      ∙ sym
+      (past-reader file p r (read .into .value) (line f) (λ ns. give (getD ns 0 0)) (read .into .says) ∙ given-reached file (getD (read .into .value) 0 0) r)
 
   -- the first word is the number
   pub number-read : reached file (getD out 0 0) r ≡ resumed file p (numberLine k (low to high))

@@ -1,15 +1,15 @@
 -- The plan file as a whole: the number of its stacks, the stacks, and the end of the file.
-use mathlib.Core.Path.{_≡_, sym, ap, _∙_}
+use mathlib.Core.Path.{_≡_, sym, _∙_}
 use mathlib.Core.List.{List, []}
 use Prim.Native.Nat.{ℕ}
 use lib.ListN.{length}
 use Rattle.meaning.specs.declared.Limits.{Limits}
-use Rattle.meaning.specs.Reader.{Outcome, onward, atEnd}
+use Rattle.meaning.specs.Reader.{_>>=_, atEnd}
 use Rattle.meaning.specs.Files.{stackLines, numberLine, _to_}
 use Rattle.lines.specs.declared.Progress.{Progress}
 use Rattle.lines.specs.declared.Progress.the-variants.{Next}
 use Rattle.lines.specs.Progress.{reached, resumed, Going, endedAs, ReadInto}
-use Rattle.lines.proofs.Follow.{first-reached, then-reached, read-has}
+use Rattle.lines.proofs.Follow.{onward-reached, past-reader, read-has}
 use Rattle.lines.proofs.Ended.{ended-reached, ended-sound, ended-going}
 use Rattle.plan.specs.Words.{planWords, planFile, PlanPromise}
 use Rattle.plan.proofs.StackLines.{so-many}
@@ -29,9 +29,10 @@ module _ (m : Limits) (items trucks : ℕ) (file part : List ℕ) (count : ℕ) 
               says =
                   rw ended
                   (ended-reached ss file q
-                  ∙ sym (then-reached file count ss p q (λ n. stackLines (m .loads) items trucks n [] 0) (λ n. atEnd) (stacks .says))
-                  ∙ ap (λ (x : Outcome ℕ). onward x (λ n i bs. onward (stackLines (m .loads) items trucks n [] 0 i bs) atEnd)) announced
-                  ∙ sym (first-reached file (Next 0 0 0) (numberLine "stacks=" (0 to m .stacks)) _));
+                  ∙ sym
+                  (past-reader file (Next 0 0 0) p count (numberLine "stacks=" (0 to m .stacks)) (λ n. stackLines (m .loads) items trucks n [] 0 >>= atEnd) announced
+                  ∙ past-reader file p q ss _ atEnd (stacks .says)
+                  ∙ sym (onward-reached file ss q atEnd)));
               holds = λ going. stacks .holds (onwards going);
               sound = rw ended (ended-sound file q (stacks .sound));
             };

@@ -7,7 +7,7 @@ use native.Mathlib.Omega.{arith}
 use borrow.Rule.Slice.PartMut.{midOf, putMid}
 use lib.ListN.{length, drop, set, replicate, length-append, length-replicate, length-take, length-drop}
 use Rattle.meaning.specs.declared.Limits.{Limits}
-use Rattle.meaning.specs.Reader.{Outcome, found, wrongForm, outOfRange, Reader, give, line, onward}
+use Rattle.meaning.specs.Reader.{Outcome, found, wrongForm, outOfRange, Reader, give, line, onward, _>>=_}
 use Rattle.meaning.specs.Files.{stackLine, loadLine, stackLines}
 use Rattle.meaning.specs.Model.{Stack, stackNumber}
 use Rattle.meaning.specs.Table.{loadEntries}
@@ -15,7 +15,8 @@ use Rattle.meaning.proofs.Outcomes.{Leaves, leaves-onward, leaves-line}
 use Rattle.lines.specs.declared.Progress.{Progress}
 use Rattle.lines.specs.declared.Progress.the-variants.{Next, WrongForm, OutOfRange}
 use Rattle.lines.specs.Progress.{reached, resumed, Going, entriesOf, Sound, ReadInto, ReadEntries}
-use Rattle.lines.proofs.Follow.{onward-same, onward-twice, onward-give, leaves-then, first-reached, then-reached, give-reached, on-reached, no-refusal, same-resumed, read-has, read-meets}
+use Rattle.lines.proofs.Follow.{onward-same, onward-twice, onward-give, leaves-then}
+use Rattle.lines.proofs.Follow.{onward-reached, past-reader, given-reached, no-refusal, same-resumed, read-has, read-meets}
 use Rattle.plan.specs.Words.{spliced, rowNumbers, oneStack, StackPromise, planWords}
 use Rattle.plan.proofs.StackWords.{takenBy, SixFields, taken-more, loads-more, Stands, stands-none, stands-taken, stands-more, stack-put}
 
@@ -50,10 +51,10 @@ module _ (most items trucks : ℕ) where
       → reached file (stackOf fields load) r ≡ resumed file p (oneStack most items trucks taken held)
   unfolding oneStack
   stack-says file taken held p q r fields load first second =
-      sym (give-reached file load r (stackOf fields))
-      ∙ sym (then-reached file fields load q r (λ f. line (loadLine most items held)) (λ f l. give (stackOf f l)) second)
-      ∙ ap (λ (x : Outcome (List ℕ)). onward x (λ f n bs. onward (line (loadLine most items held) n bs) (λ l. give (stackOf f l)))) first
-      ∙ sym (first-reached file p (line (stackLine trucks taken)) _)
+      sym
+      (past-reader file p q fields _ (λ f. line (loadLine most items held) >>= λ l. give (stackOf f l)) first
+      ∙ past-reader file q r load _ (λ l. give (stackOf fields l)) second
+      ∙ given-reached file (stackOf fields load) r)
 
   -- ---- the stacks that are left
   -- so many stacks behind those that were read
@@ -110,14 +111,11 @@ module _ (most items trucks : ℕ) where
     later-next : (count : ℕ) (s : Stack) (r : Progress)
         → reached file s r ≡ resumed file q (oneStack most items trucks (takenBy ss) (length (loadEntries ss)))
         → onward (reached file ss q) (later (suc count)) ≡ onward (reached file (ss ++ s ∷ []) r) (later count)
-    unfolding onward
-    later-next count s r e = go q e ∙ on-reached file s r (λ x. ss ++ x ∷ []) (later count)
-      where
-        go : (q : Progress) → reached file s r ≡ resumed file q (oneStack most items trucks (takenBy ss) (length (loadEntries ss)))
-            → onward (reached file ss q) (later (suc count)) ≡ onward (reached file s r) (λ x. later count (ss ++ x ∷ []))
-        go (Next at n k) e = later-one count ss (suc n) (drop at file) ∙ rw e refl
-        go (WrongForm n) e = rw e refl
-        go (OutOfRange n) e = rw e refl
+    later-next count s r e =
+        onward-same (reached file ss q) (later (suc count)) _ (later-one count)
+        ∙ onward-reached file ss q _
+        ∙ past-reader file q r s _ (λ x. later count (ss ++ x ∷ [])) e
+        ∙ sym (onward-reached file (ss ++ s ∷ []) r (later count))
 
     -- after the last
     later-done : onward (reached file ss q) (later 0) ≡ reached file ss q

@@ -6,12 +6,12 @@ use native.Mathlib.Omega.{arith}
 use lib.ListN.{length, replicate, replicate-append-replicate}
 use Rattle.meaning.specs.Lists.{padded}
 use Rattle.meaning.specs.Model.{Truck}
-use Rattle.meaning.specs.Reader.{Outcome, found, Reader, onward, line, times}
+use Rattle.meaning.specs.Reader.{Reader, give, _>>=_, line, times}
 use Rattle.meaning.specs.Files.{truckLine, productsLine, suppliersLine, docksLine, plantDocksLine, truckLines}
 use Rattle.meaning.specs.Table.{countedWords, truckWords}
 use Rattle.lines.specs.declared.Progress.{Progress}
 use Rattle.lines.specs.Progress.{reached, resumed, entriesOf, ReadInto, ReadEntries}
-use Rattle.lines.proofs.Follow.{first-reached, then-reached, give-reached, no-refusal, same-resumed}
+use Rattle.lines.proofs.Follow.{past-reader, given-reached, no-refusal, same-resumed}
 use Rattle.trucks.specs.Rows.{dockWords}
 use Rattle.trucks.proofs.Repeat.{Front}
 use Rattle.trucks.proofs.Entries.{few-counted}
@@ -21,16 +21,16 @@ abbrev truckOf : List ℕ → List ℕ → List ℕ → List (List ℕ) → List
 truckOf f p s d l = record { fields = f; products = p; suppliers = s; docks = d; plantDocks = l }
 
 abbrev afterDocks : List ℕ → List ℕ → List ℕ → List (List ℕ) → Reader Truck
-afterDocks f p s d n bs = onward (line plantDocksLine n bs) (λ l n bs. found (truckOf f p s d l) n bs)
+afterDocks f p s d = line plantDocksLine >>= λ l. give (truckOf f p s d l)
 
 abbrev afterSuppliers : List ℕ → List ℕ → List ℕ → Reader Truck
-afterSuppliers f p s n bs = onward (times (length s) (line docksLine) n bs) (afterDocks f p s)
+afterSuppliers f p s = times (length s) (line docksLine) >>= afterDocks f p s
 
 abbrev afterProducts : List ℕ → List ℕ → Reader Truck
-afterProducts f p n bs = onward (line suppliersLine n bs) (afterSuppliers f p)
+afterProducts f p = line suppliersLine >>= afterSuppliers f p
 
 abbrev afterRow : List ℕ → Reader Truck
-afterRow f n bs = onward (line productsLine n bs) (afterProducts f)
+afterRow f = line productsLine >>= afterProducts f
 
 -- ---- the words of the five parts, one behind the other
 abbrev partWords : Truck → List ℕ
@@ -62,7 +62,7 @@ module _ {file : List ℕ} {p q₁ q₂ q₃ q₄ q₅ : Progress} {w₁ w₂ w�
   abbrev truck : Truck
   truck = truckOf (row .value) (products .into .value) (suppliers .into .value) (docks .value) (plantDocks .into .value)
 
-  -- line by line, from the last to the first
+  -- line by line
   says : reached file truck q₅ ≡ resumed file p truckLines
   unfolding truckLines
   says =
@@ -72,13 +72,13 @@ module _ {file : List ℕ} {p q₁ q₂ q₃ q₄ q₅ : Progress} {w₁ w₂ w�
       let ds = docks .value in
       let ls = plantDocks .into .value in
       let each = docks .says ∙ same-resumed file q₃ _ _ (λ g. ap (λ (n : ℕ). times n (line docksLine)) (counted ∙ suppliers .count g)) in
-      sym (give-reached file ls q₅ (truckOf f ps ss ds))
-      ∙ sym (then-reached file ds ls q₄ q₅ (λ d. line plantDocksLine) (λ d l n bs. found (truckOf f ps ss d l) n bs) (plantDocks .into .says))
-      ∙ sym (then-reached file ss ds q₃ q₄ (λ s. times (length s) (line docksLine)) (afterDocks f ps) each)
-      ∙ sym (then-reached file ps ss q₂ q₃ (λ p. line suppliersLine) (afterSuppliers f) (suppliers .into .says))
-      ∙ sym (then-reached file f ps q₁ q₂ (λ f. line productsLine) afterProducts (products .into .says))
-      ∙ ap (λ (x : Outcome (List ℕ)). onward x afterRow) (row .says)
-      ∙ sym (first-reached file p (line truckLine) afterRow)
+      sym
+      (past-reader file p q₁ f _ afterRow (row .says)
+      ∙ past-reader file q₁ q₂ ps _ (afterProducts f) (products .into .says)
+      ∙ past-reader file q₂ q₃ ss _ (afterSuppliers f ps) (suppliers .into .says)
+      ∙ past-reader file q₃ q₄ ds _ (afterDocks f ps ss) each
+      ∙ past-reader file q₄ q₅ ls _ (λ l. give (truckOf f ps ss ds l)) (plantDocks .into .says)
+      ∙ given-reached file truck q₅)
 
   pub truck-read : {out : List ℕ} → length w₅ ≡ 9 → Front 160 143 ((((([] ++ w₁) ++ w₂) ++ w₃) ++ w₄) ++ w₅) out
       → ReadInto file truckLines truckWords p q₅ out
