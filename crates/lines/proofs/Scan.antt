@@ -2,15 +2,14 @@
 use mathlib.Core.Path.{_≡_, refl, sym}
 use mathlib.Core.Bool.{Bool, true, false}
 use mathlib.Core.List.{List, [], _∷_}
-use Prim.Native.Nat.{ℕ, _+_, _-_, _≤_, _<_}
-use native.Mathlib.Numerals.{add-one}
+use Prim.Native.Nat.{ℕ, _+_, _≤_, _<_}
 use native.Mathlib.Omega.{arith}
 use borrow.Author.Tests.{eq-eqb, ne-eqb}
-use lib.ListN.{length, getD, take, drop, length-drop, drop-of-length-le}
-use lib.Seq.{drop-cons, take-all}
+use lib.ListN.{length, getD, drop, drop-of-length-le}
 use Rattle.meaning.specs.Lists.{any, all, between, listed, distinct}
 use Rattle.meaning.specs.Files.{allWithin}
 use Rattle.meaning.proofs.Tests.{fails, between-reads}
+use Rattle.text.proofs.Bytes.{drop-next}
 use Rattle.lines.specs.Progress.{ranges}
 
 -- ---- one word and its range
@@ -25,55 +24,47 @@ module _ (low high n : ℕ) where
   above h = fails (between low high n) (λ e. omega (arith, between-reads low high n .0 e))
 
 -- ---- the words from an index on
--- the word at the index stands in front of those from the next index on
-next-word : (ws : List ℕ) (i : ℕ) → i < length ws → drop i ws ≡ getD ws i 0 ∷ drop (i + 1) ws
-next-word ws i h = rw (add-one, drop-cons ws i 0)
-
--- all words from the index on
-pub all-rest : (ws : List ℕ) (i : ℕ) → take (length ws - i) (drop i ws) ≡ drop i ws
-all-rest ws i = take-all (length ws - i) (drop i ws) (omega (arith, length-drop i ws))
-
 module _ (ws : List ℕ) (i : ℕ) (h : i < length ws) where
   -- one test for all words
   module _ (test : ℕ → Bool) where
     pub all-on : test (getD ws i 0) ≡ true → all test (drop i ws) ≡ all test (drop (i + 1) ws)
     unfolding all
-    all-on e = rw (next-word ws i h) (simp e)
+    all-on e = rw (drop-next ws i h) (simp e)
 
     pub all-off : test (getD ws i 0) ≡ false → all test (drop i ws) ≡ false
     unfolding all
-    all-off e = rw (next-word ws i h) (simp e)
+    all-off e = rw (drop-next ws i h) (simp e)
 
   -- whether a word is among them
   module _ (n : ℕ) where
     pub listed-here : getD ws i 0 ≡ n → listed n (drop i ws) ≡ true
     unfolding any
-    listed-here e = rw (next-word ws i h) (simp (eq-eqb _ _ (sym e)))
+    listed-here e = rw (drop-next ws i h) (simp (eq-eqb _ _ (sym e)))
 
     pub listed-on : (getD ws i 0 ≡ n → ⊥) → listed n (drop i ws) ≡ listed n (drop (i + 1) ws)
     unfolding any
-    listed-on f = rw (next-word ws i h) (simp (ne-eqb n (getD ws i 0) (λ e. f (sym e))))
+    listed-on f = rw (drop-next ws i h) (simp (ne-eqb n (getD ws i 0) (λ e. f (sym e))))
 
   -- whether they are distinct
   pub distinct-on : listed (getD ws i 0) (drop (i + 1) ws) ≡ false → distinct (drop i ws) ≡ distinct (drop (i + 1) ws)
   unfolding distinct
-  distinct-on e = rw (next-word ws i h) (simp e)
+  distinct-on e = rw (drop-next ws i h) (simp e)
 
   pub distinct-off : listed (getD ws i 0) (drop (i + 1) ws) ≡ true → distinct (drop i ws) ≡ false
   unfolding distinct
-  distinct-off e = rw (next-word ws i h) (simp e)
+  distinct-off e = rw (drop-next ws i h) (simp e)
 
   -- each word in its range
   module _ (lows highs : List ℕ) (l : i < length lows) (k : i < length highs) where
     pub within-on : between (getD lows i 0) (getD highs i 0) (getD ws i 0) ≡ true
         → allWithin (ranges (drop i lows) (drop i highs)) (drop i ws) ≡ allWithin (ranges (drop (i + 1) lows) (drop (i + 1) highs)) (drop (i + 1) ws)
     unfolding allWithin ranges
-    within-on e = rw (next-word ws i h, next-word lows i l, next-word highs i k) (simp e)
+    within-on e = rw (drop-next ws i h, drop-next lows i l, drop-next highs i k) (simp e)
 
     pub within-off : between (getD lows i 0) (getD highs i 0) (getD ws i 0) ≡ false
         → allWithin (ranges (drop i lows) (drop i highs)) (drop i ws) ≡ false
     unfolding allWithin ranges
-    within-off e = rw (next-word ws i h, next-word lows i l, next-word highs i k) (simp e)
+    within-off e = rw (drop-next ws i h, drop-next lows i l, drop-next highs i k) (simp e)
 
 -- ---- behind the last word
 module _ (ws : List ℕ) (i : ℕ) (h : length ws ≤ i) where

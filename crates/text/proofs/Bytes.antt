@@ -19,7 +19,7 @@ pub take-rest : (bs : List ℕ) (i : ℕ) → take (length bs - i) (drop i bs) �
 take-rest bs i = take-all (length bs - i) (drop i bs) (omega (arith, length-drop i bs))
 
 -- the byte at an index stands in front of the bytes from the next index on
-drop-next : (bs : List ℕ) (i : ℕ) → i < length bs → drop i bs ≡ getD bs i 0 ∷ drop (i + 1) bs
+pub drop-next : (bs : List ℕ) (i : ℕ) → i < length bs → drop i bs ≡ getD bs i 0 ∷ drop (i + 1) bs
 drop-next bs i h = rw (add-one, drop-cons bs i 0)
 
 -- ---- a count of the bytes before a certain one
