@@ -209,7 +209,7 @@ stacks-decode (s ∷ p) before after rest h =
     (ap₂ {C = List Stack} (λ a r. a ∷ r) (stack-decodes s before (loadEntries p ++ after) (h .0))
     (rw (← append-assoc before (s .load) (loadEntries p ++ after), ← length-append before (s .load)) (stacks-decode p (before ++ s .load) after rest (h .1))))
 
-length-stackWords : (before : ℕ) (p : List Stack) → Every (λ (s : Stack). length (s .fields) ≡ 6) p → length (stackWords before p) ≡ 8 * length p
+pub length-stackWords : (before : ℕ) (p : List Stack) → Every (λ (s : Stack). length (s .fields) ≡ 6) p → length (stackWords before p) ≡ 8 * length p
 unfolding stackWords
 length-stackWords before [] h = refl
 length-stackWords before (s ∷ p) h =

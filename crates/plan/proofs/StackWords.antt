@@ -5,13 +5,14 @@ use Prim.Native.Nat.{ℕ, zero, suc, _+_, _-_, _*_, _≤_, _<_}
 use native.Mathlib.Nat.{add-zero, sub-zero}
 use native.Mathlib.Omega.{arith}
 use borrow.Rule.Slice.PartMut.{midOf, putMid, same-len-mid}
-use lib.ListN.{length, getD, set, replicate, length-append, length-set, length-replicate, replicate-append-replicate, List·getD-append}
+use lib.ListN.{length, getD, set, replicate, length-append, length-set, replicate-append-replicate, List·getD-append}
 use lib.Seq.{getD-append-add}
 use Rattle.meaning.specs.declared.Limits.{Limits}
 use Rattle.meaning.specs.Lists.{Every, padded}
 use Rattle.meaning.specs.Model.{Stack, number}
 use Rattle.meaning.specs.Table.{stackWords, loadEntries}
 use Rattle.meaning.proofs.Lists.{every-append}
+use Rattle.meaning.proofs.Decode.{length-padded, stackRow, length-stackRow, length-stackWords}
 use Rattle.plan.specs.Words.{spliced, rowNumbers, withStack, planWords}
 use Rattle.plan.proofs.Runs.{splice-behind, splice-next, splice-apart, set-splices, splice-padded, splice-lent}
 
@@ -20,10 +21,6 @@ use Rattle.plan.proofs.Runs.{splice-behind, splice-next, splice-apart, 
 unfoldable pub takenBy : List Stack → List ℕ
 takenBy [] = []
 takenBy (s ∷ ss) = takenBy ss ++ number s ∷ []
-
--- the eight words of a stack, whose load begins behind so many entries
-abbrev rowWords : ℕ → Stack → List ℕ
-rowWords before s = s .fields ++ (before ∷ length (s .load) ∷ [])
 
 -- a stack with all fields of its line
 abbrev pub SixFields : Stack → Type 0
@@ -40,24 +37,14 @@ module _ (s : Stack) where
   loads-more [] = append-nil (s .load)
   loads-more (x ∷ ss) = ap (λ (l : List ℕ). x .load ++ l) (loads-more ss) ∙ sym (append-assoc (x .load) (loadEntries ss) (s .load))
 
-  words-more : (before : ℕ) (ss : List Stack) → stackWords before (ss ++ s ∷ []) ≡ stackWords before ss ++ rowWords (before + length (loadEntries ss)) s
+  words-more : (before : ℕ) (ss : List Stack) → stackWords before (ss ++ s ∷ []) ≡ stackWords before ss ++ stackRow (before + length (loadEntries ss)) s
   unfolding stackWords loadEntries flatMap
-  words-more before [] = append-nil (rowWords before s) ∙ ap (λ (n : ℕ). rowWords n s) (sym (add-zero before))
+  words-more before [] = append-nil (stackRow before s) ∙ ap (λ (n : ℕ). stackRow n s) (sym (add-zero before))
   words-more before (x ∷ ss) =
       let later = before + length (x .load) in
       let e : later + length (loadEntries ss) ≡ before + length (x .load ++ loadEntries ss) = omega (arith, length-append (x .load) (loadEntries ss)) in
-      ap (λ (l : List ℕ). rowWords before x ++ l) (words-more later ss)
-      ∙ rw e (sym (append-assoc (rowWords before x) (stackWords later ss) _))
-
-length-row : (before : ℕ) (s : Stack) → SixFields s → length (rowWords before s) ≡ 8
-length-row before s e = simp length-append (omega arith)
-
-length-words : (before : ℕ) (ss : List Stack) → Every SixFields ss → length (stackWords before ss) ≡ 8 * length ss
-unfolding stackWords
-length-words before [] h = refl
-length-words before (s ∷ ss) h =
-    length-append (rowWords before s) (stackWords (before + length (s .load)) ss)
-    ∙ omega (arith, length-row before s (h .0), length-words (before + length (s .load)) ss (h .1))
+      ap (λ (l : List ℕ). stackRow before x ++ l) (words-more later ss)
+      ∙ rw e (sym (append-assoc (stackRow before x) (stackWords later ss) _))
 
 -- ---- the numbers in the rows
 -- the first row has the last of them
@@ -73,15 +60,12 @@ unfolding rowNumbers stackWords takenBy
 rows-taken before [] rest h = refl
 rows-taken before (s ∷ ss) rest h =
     let later = stackWords (before + length (s .load)) ss in
-    let first : getD (rowWords before s) 0 0 ≡ number s = List·getD-append (s .fields) _ 0 0 (omega (arith, h .0)) in
-    rw (append-assoc (rowWords before s) later rest)
-    (rows-first (length ss) (rowWords before s) (later ++ rest) (length-row before s (h .0))
+    let first : getD (stackRow before s) 0 0 ≡ number s = List·getD-append (s .fields) _ 0 0 (omega (arith, h .0)) in
+    rw (append-assoc (stackRow before s) later rest)
+    (rows-first (length ss) (stackRow before s) (later ++ rest) (length-stackRow before s (h .0))
     ∙ ap₂ (λ (l : List ℕ) (n : ℕ). l ++ n ∷ []) (rows-taken (before + length (s .load)) ss rest (h .1)) first)
 
 -- ---- the part
-length-padded : (size : ℕ) (ws : List ℕ) → length ws ≤ size → length (padded size ws) ≡ size
-length-padded size ws h = simp (length-append, length-replicate) (omega arith)
-
 -- the stacks stand in the part, and their loads hold `held` entries
 pub record Stands (m : Limits) (ss : List Stack) (held : ℕ) (part : List ℕ) : Type 0 where
   pub six : Every SixFields ss
@@ -110,13 +94,13 @@ module _ {m : Limits} {ss : List Stack} {held : ℕ} {part : List ℕ} (stands :
   unfolding planWords
   stands-more s e h room =
       let rows = 8 * m .stacks in
-      let row = rowWords held s in
+      let row = stackRow held s in
       let before = stackWords 0 ss in
       let entries = loadEntries ss in
       let loads = padded (m .loads) entries in
       let first : 0 + length entries ≡ held = omega (arith, stands .counted) in
-      let wide : length before ≡ 8 * length ss = length-words 0 ss (stands .six) in
-      let eight : length row ≡ 8 = length-row held s e in
+      let wide : length before ≡ 8 * length ss = length-stackWords 0 ss (stands .six) in
+      let eight : length row ≡ 8 = length-stackRow held s e in
       let full : length (padded rows (before ++ row)) ≡ rows = length-padded rows (before ++ row) (simp length-append (omega arith)) in
       let rowPut : spliced (8 * length ss) row part ≡ padded rows (before ++ row) ++ loads =
       ap (spliced (8 * length ss) row) (stands .words) ∙ splice-padded rows (8 * length ss) before row loads wide (omega arith)
@@ -124,7 +108,7 @@ module _ {m : Limits} {ss : List Stack} {held : ℕ} {part : List ℕ} (stands :
       let loadPut : spliced held (s .load) loads ≡ padded (m .loads) (entries ++ s .load) =
       ap (spliced held (s .load)) (sym (append-nil loads)) ∙ splice-padded (m .loads) held entries (s .load) [] (sym (stands .counted)) room ∙ append-nil _
       in
-      let rowsNow : before ++ row ≡ stackWords 0 (ss ++ s ∷ []) = sym (words-more s 0 ss ∙ ap (λ (n : ℕ). before ++ rowWords n s) first) in
+      let rowsNow : before ++ row ≡ stackWords 0 (ss ++ s ∷ []) = sym (words-more s 0 ss ∙ ap (λ (n : ℕ). before ++ stackRow n s) first) in
       record {
         six = every-append SixFields ss (s ∷ []) .1 (stands .six, (e, tt));
         counted = omega (arith, stands .counted, ap length (loads-more s ss), length-append (loadEntries ss) (s .load));
