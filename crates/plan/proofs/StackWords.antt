@@ -13,6 +13,7 @@ use Rattle.meaning.specs.Model.{Stack, number}
 use Rattle.meaning.specs.Table.{stackWords, loadEntries}
 use Rattle.meaning.proofs.Lists.{every-append}
 use Rattle.meaning.proofs.Decode.{length-padded, stackRow, length-stackRow, length-stackWords}
+use Rattle.lines.proofs.Follow.{flatMap-more}
 use Rattle.plan.specs.Words.{spliced, rowNumbers, withStack, planWords}
 use Rattle.plan.proofs.Runs.{splice-behind, splice-next, splice-apart, set-splices, splice-padded, splice-lent}
 
@@ -33,9 +34,8 @@ module _ (s : Stack) where
   taken-more (x ∷ ss) = ap (λ (l : List ℕ). l ++ number x ∷ []) (taken-more ss)
 
   pub loads-more : (ss : List Stack) → loadEntries (ss ++ s ∷ []) ≡ loadEntries ss ++ s .load
-  unfolding loadEntries flatMap
-  loads-more [] = append-nil (s .load)
-  loads-more (x ∷ ss) = ap (λ (l : List ℕ). x .load ++ l) (loads-more ss) ∙ sym (append-assoc (x .load) (loadEntries ss) (s .load))
+  unfolding loadEntries
+  loads-more ss = sym (flatMap-more (λ (x : Stack). x .load) ss s)
 
   words-more : (before : ℕ) (ss : List Stack) → stackWords before (ss ++ s ∷ []) ≡ stackWords before ss ++ stackRow (before + length (loadEntries ss)) s
   unfolding stackWords loadEntries flatMap

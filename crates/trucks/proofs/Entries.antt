@@ -22,10 +22,6 @@ padded-most : (w : ℕ) (l : List ℕ) → length (padded w l) ≡ w → length 
 padded-most w l e = omega (arith, simp (length-append, length-replicate) at e)
 
 module _ {file : List ℕ} {R : Reader (List ℕ)} {p r : Progress} {run : List ℕ} (w : ℕ) where
-  pub entries-padded : ReadEntries file R (padded w) p r run → length run ≡ w → entriesOf r ≤ w
-  entries-padded a l =
-      none-refused r w (λ g. let few = padded-most w (a .into .value) (ap length (sym (a .into .holds g)) ∙ l) in omega (arith, a .count g))
-
   pub few-counted : (a : ReadEntries file R (countedWords w) p r run) → length run ≡ suc w → Going r → length (a .into .value) ≤ w
   few-counted a l g =
       let long : suc (length (padded w (a .into .value))) ≡ suc w = ap length (sym (a .into .holds g)) ∙ l in

@@ -1,6 +1,6 @@
 -- The same thing read some times over, each value into its own run of words: the state of a loop that does so, for every reader, every
 -- way to write a value as words, and every width.
-use mathlib.Core.Path.{_≡_, refl, sym, ap, _∙_}
+use mathlib.Core.Path.{_≡_, refl, sym, _∙_}
 use mathlib.Core.List.{List, [], _∷_, _++_, flatMap, append-assoc, append-nil}
 use Prim.Native.Nat.{ℕ, suc, _+_, _-_, _*_, _≤_, _<_}
 use native.Mathlib.Nat.{sub-zero, mul-zero, mul-add}
@@ -12,7 +12,7 @@ use Rattle.meaning.specs.Lists.{padded}
 use Rattle.meaning.specs.Reader.{Reader, onward, times}
 use Rattle.lines.specs.declared.Progress.{Progress}
 use Rattle.lines.specs.Progress.{reached, resumed, Going, Sound, ReadInto}
-use Rattle.lines.proofs.Follow.{no-refusal, more, times-first, times-next, times-done}
+use Rattle.lines.proofs.Follow.{no-refusal, flatMap-more, more, times-first, times-next, times-done}
 use Rattle.trucks.specs.Rows.{rows}
 
 -- ---- words in front and zeros behind them
@@ -102,11 +102,6 @@ module _ {A : Type 0} {file : List ℕ} {R : Reader A} {Holds : ℕ → List A �
     }
 
 -- ---- runs of one width, one behind the other
-flatMap-more : {A : Type 0} (w : A → List ℕ) (vs : List A) (v : A) → flatMap w vs ++ w v ≡ flatMap w (vs ++ v ∷ [])
-unfolding flatMap
-flatMap-more w [] v = sym (append-nil (w v))
-flatMap-more w (a ∷ vs) v = append-assoc (w a) (flatMap w vs) (w v) ∙ ap (λ (l : List ℕ). w a ++ l) (flatMap-more w vs v)
-
 -- the runs of k values fill the part from the front
 pub record Runs {A : Type 0} (size width : ℕ) (w : A → List ℕ) (k : ℕ) (vs : List A) (out : List ℕ) : Type 0 where
   pub front : Front size (width * k) (flatMap w vs) out

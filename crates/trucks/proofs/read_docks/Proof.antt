@@ -6,9 +6,9 @@ use borrow.Author.Needs.{needs}
 use lib.ListN.{length, replicate, length-set}
 use Rattle.meaning.specs.Reader.{line}
 use Rattle.meaning.specs.Files.{docksLine}
+use Rattle.lines.proofs.Judging.{entries-room}
 use Rattle.trucks.specs.Rows.{dockWords}
 use Rattle.trucks.proofs.Repeat.{Repeat, repeat-first, repeat-next, repeat-done}
-use Rattle.trucks.proofs.Entries.{entries-padded}
 use Rattle.trucks.proofs.Docks.{Docks, docks-clear, docks-lent, docks-more, docks-words}
 use Rattle.trucks.proofs.read_docks.Statement.{statement}
 use Rattle.trucks.proofs.read_docks.Tie as tie
@@ -64,7 +64,7 @@ cast-part c =
     let turn = c .before .before .before .before .before .before .before .loop in
     let read = c .before .before .before .identifiers-line in
     let eight = docks-lent (turn .k) (turn .part) (omega arith) in
-    omega (arith, c .entries .ensures, entries-padded 8 (rw eight at (read .ensures "docks=" refl)) (read .kept .1 .1 .1 .0 ∙ eight))
+    omega (arith, c .entries .ensures, entries-room _ _ _ _ (read .result) _ (read .ensures "docks=" refl), read .kept .1 .1 .1 .0 ∙ eight)
 
 mul-part : tie.Need-mul-part Inv-loop μ-loop
 mul-part c = search needs
