@@ -6,7 +6,7 @@ use Prim.Native.Nat.{ℕ, suc, _+_, _-_, _≤_, _<_}
 use native.Mathlib.Numerals.{add-one}
 use native.Mathlib.Omega.{arith}
 use lib.ListN.{length, take, drop, set, replicate, length-append, take-append-drop, drop-of-length-le, length-replicate, replicate-append-replicate}
-use lib.Seq.{length-take-le, drop-at}
+use lib.Seq.{length-take-le, drop-at, take-all}
 use borrow.Rule.Slice.PartMut.{putMid}
 use Rattle.meaning.specs.Lists.{padded}
 use Rattle.meaning.specs.Text.{Form}
@@ -14,7 +14,7 @@ use Rattle.meaning.specs.Reader.{Reader, line}
 use Rattle.meaning.specs.Table.{countedWords}
 use Rattle.lines.specs.declared.Progress.{Progress}
 use Rattle.lines.specs.declared.Progress.the-variants.{Next, WrongForm, OutOfRange}
-use Rattle.lines.specs.Progress.{resumed, entriesOf, unjudged, judgedAs, Unpassed, Stored, ReadEntries}
+use Rattle.lines.specs.Progress.{resumed, entriesOf, Going, unjudged, judgedAs, Unpassed, Stored, ReadInto, ReadEntries}
 
 -- a line that is not yet passed
 pub unpassed-next : {at n k : ℕ} (file : List ℕ) (p : Progress) → p ≡ Next at n k → Unpassed file p → (n < at) × (at ≤ length file)
@@ -42,13 +42,13 @@ zeros-behind n k out h l e =
 module _ (file out₀ out : List ℕ) (least : ℕ) (f : Form) (words : List ℕ → List ℕ) (p : Progress) (long : length out ≡ length out₀)
     (stand : (k : ℕ) → least ≤ k → k ≤ length out₀ → drop k out ≡ drop k out₀ → out ≡ words (take k out)) where
   by-cases : (q : Progress) (ok : Bool) → unjudged f file out q ≡ resumed file p (line f) → Unpassed file q → Stored least out₀ out q
-      → ok ≡ f .fits (take (entriesOf q) out) → ReadEntries file (line f) words p (judgedAs q ok) out
+      → (Going q → ok ≡ f .fits (take (entriesOf q) out)) → ReadEntries file (line f) words p (judgedAs q ok) out
   by-cases (Next at n k) true e u s t =
       record {
         into =
             record {
               value = take k out;
-              says = rw add-one (rw (← t) at e);
+              says = rw add-one (rw (← t tt) at e);
               holds = λ g. stand k (s .0) (s .1) (s .2);
               sound = (omega (arith, u .0), u .1);
             };
@@ -57,7 +57,7 @@ module _ (file out₀ out : List ℕ) (least : ℕ) (f : Form) (words : List ℕ
   by-cases (Next at n k) false e u s t =
       record {
         into =
-            record { value = []; says = rw (← t) at e; holds = λ g. absurd g; sound = omega (arith, u .0, u .1) };
+            record { value = []; says = rw (← t tt) at e; holds = λ g. absurd g; sound = omega (arith, u .0, u .1) };
         count = λ g. absurd g;
       }
   by-cases (WrongForm n) ok e u s t = record { into = record { value = []; says = e; holds = λ g. absurd g; sound = u }; count = λ g. absurd g }
@@ -68,7 +68,22 @@ module _ (file out₀ out : List ℕ) (least : ℕ) (f : Form) (words : List ℕ
       → m ≡ entriesOf q → ok ≡ f .fits (take (m - 0) out) → r ≡ judgedAs q ok → ReadEntries file (line f) words p r out
   judged-entries q r ok m e u s c t j =
       let n : m - 0 ≡ entriesOf q = omega arith in
-      rw j (by-cases q ok e u s (rw n at t))
+      rw j (by-cases q ok e u s (λ g. rw n at t))
+
+-- ---- a line that fills its words is judged on all of them
+all-stored : (out₀ out : List ℕ) (q : Progress) → Stored (length out) out₀ out q → Going q → take (entriesOf q) out ≡ out
+all-stored out₀ out (Next at n k) s g = take-all k out (s .0)
+all-stored out₀ out (WrongForm n) s g = absurd g
+all-stored out₀ out (OutOfRange n) s g = absurd g
+
+-- what was stored is what is read
+pub full-read : (file out₀ out : List ℕ) (f : Form) (p q : Progress) (ok : Bool) → length out ≡ length out₀
+    → unjudged f file out q ≡ resumed file p (line f) → Unpassed file q → Stored (length out) out₀ out q → ok ≡ f .fits out
+    → ReadInto file (line f) (λ ns. ns) p (judgedAs q ok) out
+full-read file out₀ out f p q ok long e u s t =
+    by-cases file out₀ out (length out) f (λ ns. ns) p long (λ k least room behind. sym (take-all k out least)) q ok e u s
+    (λ g. t ∙ ap (f .fits) (sym (all-stored out₀ out q s g)))
+    .into
 
 -- ---- identifiers and their count
 -- they have room

@@ -6,4 +6,3 @@ pub mod Storing
 pub mod Judging
 pub mod Number
 pub mod Ended
-pub mod FullLines

@@ -3,7 +3,7 @@ use mathlib.Core.Path.{_≡_, refl, sym, _∙_}
 use lib.ListN.{length}
 use borrow.Author.Needs.{needs}
 use Rattle.meaning.specs.Files.{itemLine}
-use Rattle.lines.proofs.FullLines.{full-read}
+use Rattle.lines.proofs.Judging.{full-read}
 use Rattle.instance.proofs.Items.{item-refuses-largest}
 use Rattle.instance.proofs.read_item.Statement.{statement}
 use Rattle.instance.proofs.read_item.Tie as tie
@@ -32,9 +32,10 @@ returns c =
     let out = line .stored-line .last .1 .1 .1 .1 .0 in
     let stored = line .stored-line .result in
     let promised = line .stored-line .ensures in
-    let full : length out ≡ 16 = line .stored-line .kept .1 .1 .1 .1 .0 ∙ start .pre .1 in
+    let long : length out ≡ length out₀ = line .stored-line .kept .1 .1 .1 .1 .0 in
+    let full : length out ≡ 16 = long ∙ start .pre .1 in
     rw (c .judged .ensures)
-    (full-read (start .args .file .now) out₀ out itemLine (start .args .p) stored (test .item-in-range .result)
+    (full-read (start .args .file .now) out₀ out itemLine (start .args .p) stored (test .item-in-range .result) long
     (promised .0 itemLine refl refl (sym (start .pre .1)) item-refuses-largest) (promised .1 .0) (rw full (promised .1 .1)) (test .item-in-range .ensures))
 
 pub read-item-spec : {M : Type 1} → statement M

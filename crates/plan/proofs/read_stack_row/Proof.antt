@@ -11,7 +11,7 @@ use Rattle.meaning.specs.Files.{stackLine}
 use Rattle.plan.specs.Words.{spliced, rowNumbers}
 use Rattle.plan.proofs.Splices.{put-spliced}
 use Rattle.lines.proofs.Follow.{read-within}
-use Rattle.lines.proofs.FullLines.{full-read}
+use Rattle.lines.proofs.Judging.{full-read}
 use Rattle.plan.proofs.Judging.{stack-refuses-largest, row-fits}
 use borrow.Author.Needs.{needs}
 use Rattle.plan.proofs.read_stack_row.Statement.{statement}
@@ -100,7 +100,8 @@ returns c =
     rw (put-spliced at (a .part .now) row size long, c .judged .ensures)
     (read-within (a .file .now) (line f) (λ ns. ns) (a .p) _ row (λ fields. spliced at fields (a .part .now))
     (full-read
-    (a .file .now) (midOf at size (a .part .now)) row f (a .p) (line-in .result) (joined .if1 .judged) says (line-in .ensures .1 .0) (rw six (line-in .ensures .1 .1)) ok))
+    (a .file .now) (midOf at size (a .part .now)) row f (a .p) (line-in .result) (joined .if1 .judged) same
+    says (line-in .ensures .1 .0) (rw six (line-in .ensures .1 .1)) ok))
 
 pub read-stack-row-spec : {M : Type 1} → statement M
 read-stack-row-spec =
