@@ -24,12 +24,12 @@ use Rattle.meaning.proofs.Sound.{SoundStack, Sound}
 minus-signed : (a b : ℕ) → b ≤ a → pos a -ℤ pos b ≡ pos (a - b)
 minus-signed a b h = simp ring (same-less _ _ _ _ (omega arith))
 
-sum-below : (f g : ℕ → ℕ) (l : List ℕ) → ((n : ℕ) → In n l → f n ≤ g n) → sum f l ≤ sum g l
+pub sum-below : (f g : ℕ → ℕ) (l : List ℕ) → ((n : ℕ) → In n l → f n ≤ g n) → sum f l ≤ sum g l
 unfolding sum
 sum-below f g [] h = omega arith
 sum-below f g (n ∷ l) h = let k = sum-below f g l (λ m e. h m (inr e)) in omega (arith, h n (inl refl), k)
 
-sum-tail : (f : ℕ → ℕ) (l : List ℕ) → sum f (drop 1 l) ≤ sum f l
+pub sum-tail : (f : ℕ → ℕ) (l : List ℕ) → sum f (drop 1 l) ≤ sum f l
 unfolding sum
 sum-tail f [] = omega arith
 sum-tail f (n ∷ l) = omega arith

@@ -81,7 +81,7 @@ module _ {m : Limits} {i : Instance} (h : InstanceInRange m i) where
 -- ---- the numbers of the stacks
 module _ (most items trucks : ℕ) where
   -- no stack has a number that is taken
-  not-taken : (taken : List ℕ) (held : ℕ) (p : List Stack) → StacksInRange most items trucks taken held p
+  pub not-taken : (taken : List ℕ) (held : ℕ) (p : List Stack) → StacksInRange most items trucks taken held p
       → (s : Stack) → In s p → In (number s) taken → ⊥
   not-taken taken held [] h s m k = m
   not-taken taken held (r ∷ p) h s (inl e) k =

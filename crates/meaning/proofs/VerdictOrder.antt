@@ -47,23 +47,23 @@ module _ (i : Instance) where
   H-perm t on on′ h = ap (λ (z : ℤ). z +ℤ pos 2 *ℤ pos (EM t) *ℤ pos (EJcr t)) (sumℤ-perm (lever i t) h)
 
   -- a test on the stacks of a truck that has one answer for all their orders
-  abbrev Unordered : (Instance → Truck → List Stack → Bool) → Type 0
+  abbrev pub Unordered : (Instance → Truck → List Stack → Bool) → Type 0
   Unordered kept = (t : Truck) (on on′ : List Stack) → List·Permᴰ on on′ → kept i t on ≡ kept i t on′
 
-  loadFits-perm : Unordered withinLoadLimit
+  pub loadFits-perm : Unordered withinLoadLimit
   unfolding withinLoadLimit
   loadFits-perm t on on′ h = rw (weightOn-perm on on′ h)
 
-  middleFits-perm : Unordered middleAxleHolds
+  pub middleFits-perm : Unordered middleAxleHolds
   unfolding middleAxleHolds
   middleFits-perm t on on′ h = rw (H-perm t on on′ h)
 
-  rearFits-perm : Unordered rearAxleHolds
+  pub rearFits-perm : Unordered rearAxleHolds
   unfolding rearAxleHolds
   rearFits-perm t on on′ h = rw (H-perm t on on′ h, weightOn-perm on on′ h)
 
 module _ (i : Instance) (p p′ : List Stack) (h : List·Permᴰ p p′) where
-  usedTrucks-perm : List·Permᴰ (usedTrucks p) (usedTrucks p′)
+  pub usedTrucks-perm : List·Permᴰ (usedTrucks p) (usedTrucks p′)
   unfolding usedTrucks
   usedTrucks-perm = dedup-perm sameUsed used-reads (map-perm usedBy h)
 
@@ -80,7 +80,7 @@ module _ (i : Instance) (p p′ : List Stack) (h : List·Permᴰ p p′) where
   timesLoaded-perm n = sum-perm _ h
 
   -- the test of rule 24 looks at the whole plan
-  braced-perm : (s : Stack) → braced i p s ≡ braced i p′ s
+  pub braced-perm : (s : Stack) → braced i p s ≡ braced i p′ s
   braced-perm s = ap (λ b. eqb (x s) 0 || b) (any-perm (λ (r : Stack). another s r && braces i s r) h)
 
   cost-perm : cost i p ≡ cost i p′
@@ -88,26 +88,26 @@ module _ (i : Instance) (p p′ : List Stack) (h : List·Permᴰ p p′) where
   cost-perm = rw (sum-perm (transportCost i) usedTrucks-perm, sum-perm (inventoryCost i) h)
 
   -- ---- the places of each kind of rule
-  itemPlaces-same : (kept : Instance → Stack → Item → Bool) → Same (itemPlaces kept i p) (itemPlaces kept i p′)
+  pub itemPlaces-same : (kept : Instance → Stack → Item → Bool) → Same (itemPlaces kept i p) (itemPlaces kept i p′)
   unfolding itemPlaces
   itemPlaces-same kept = flatMap-equal _ _ p p′ (perm-same h) (λ s. refl)
 
-  stackPlaces-same : (kept : Instance → List Stack → Stack → Bool) (amount : Instance → Stack → ℕ) → ((s : Stack) → kept i p s ≡ kept i p′ s)
+  pub stackPlaces-same : (kept : Instance → List Stack → Stack → Bool) (amount : Instance → Stack → ℕ) → ((s : Stack) → kept i p s ≡ kept i p′ s)
       → Same (stackPlaces kept amount i p) (stackPlaces kept amount i p′)
   unfolding stackPlaces
   stackPlaces-same kept amount k = flatMap-equal _ _ p p′ (perm-same h) (λ s. ap (λ b. onlyIf (not b) (place (number s) (amount i s) 0)) (k s))
 
-  pairPlaces-same : (kept : Instance → Stack → Stack → Bool) → Same (pairPlaces kept i p) (pairPlaces kept i p′)
+  pub pairPlaces-same : (kept : Instance → Stack → Stack → Bool) → Same (pairPlaces kept i p) (pairPlaces kept i p′)
   unfolding pairPlaces
   pairPlaces-same kept = flatMap-same _ _ p p′ (perm-same h) (λ s. flatMap-equal _ _ p p′ (perm-same h) (λ r. refl))
 
-  truckPlaces-same : (kept : Instance → Truck → List Stack → Bool) → Unordered i kept → Same (truckPlaces kept i p) (truckPlaces kept i p′)
+  pub truckPlaces-same : (kept : Instance → Truck → List Stack → Bool) → Unordered i kept → Same (truckPlaces kept i p) (truckPlaces kept i p′)
   unfolding truckPlaces
   truckPlaces-same kept k =
       flatMap-equal _ _ (usedTrucks p) (usedTrucks p′) (perm-same usedTrucks-perm) (λ u.
       ap (λ b. onlyIf (not b) (place (u .truck) (u .copy) 0)) (k (truckNumbered i (u .truck)) _ _ (stacksOn-perm u)))
 
-  departurePlaces-same : (kept : Instance → Truck → List Stack → Bool) → Unordered i kept → Same (departurePlaces kept i p) (departurePlaces kept i p′)
+  pub departurePlaces-same : (kept : Instance → Truck → List Stack → Bool) → Unordered i kept → Same (departurePlaces kept i p) (departurePlaces kept i p′)
   unfolding departurePlaces
   departurePlaces-same kept k =
       flatMap-same _ _ (usedTrucks p) (usedTrucks p′) (perm-same usedTrucks-perm) (λ u.
