@@ -1,0 +1,58 @@
+// What a search for broken rules answers. A search keeps the lowest place that it has found so far, so it may look in any order.
+ghost use mathlib.Core.Path.{_≡_};
+ghost use Rattle.meaning.specs.Lists.{onlyIf};
+ghost use Rattle.meaning.specs.Places.{place, lower};
+ghost use Rattle.search.specs.Lowest.{lowestIn, lowerFound};
+use meaning::Place;
+
+// The lowest place where a rule is broken, or none.
+pub enum Found {
+    At(Place),
+    Nothing,
+}
+
+// Whether one place is lower than another: by the first number, then the second, then the third.
+fn is_lower(p: Place, q: Place) -> bool
+    ensures { λ r. ⌜ r ≡ lower p q ⌝ }
+{
+    (p.first < q.first)
+        | ((p.first == q.first)
+            & ((p.second < q.second) | ((p.second == q.second) & (p.third < q.third))))
+}
+
+// The lower of two places.
+fn lower_place(p: Place, q: Place) -> Found
+    ensures { λ r. ⌜ r ≡ lowerFound (Found.At p) (Found.At q) ⌝ }
+{
+    if is_lower(q, p) {
+        return Found::At(q);
+    }
+    Found::At(p)
+}
+
+// The lower of two answers.
+pub fn lower_of(a: Found, b: Found) -> Found
+    ensures { λ r. ⌜ r ≡ lowerFound a b ⌝ }
+{
+    match a {
+        Found::Nothing => b,
+        Found::At(p) => match b {
+            Found::Nothing => Found::At(p),
+            Found::At(q) => lower_place(p, q),
+        },
+    }
+}
+
+// The place where a test says that a rule is broken.
+pub fn place_if(broken: bool, first: u32, second: u32, third: u32) -> Found
+    ensures { λ r. ⌜ r ≡ lowestIn (onlyIf broken (place first second third)) ⌝ }
+{
+    if broken {
+        return Found::At(Place {
+            first: first,
+            second: second,
+            third: third,
+        });
+    }
+    Found::Nothing
+}
