@@ -1,0 +1,67 @@
+-- How large what the rules see of a stack can be, for sums and products of it.
+use mathlib.Core.Bool.{Bool, true, false, cond}
+use mathlib.Core.List.{List, [], _∷_}
+use Prim.Native.Nat.{ℕ, suc, _*_, _≤_, _<_}
+use native.Mathlib.Decide.{decLe}
+use native.Mathlib.Omega.{arith}
+use lib.Dec.{eqb}
+use lib.ListN.{length, getD}
+use Rattle.meaning.specs.declared.Limits.{Limits}
+use Rattle.meaning.specs.Lists.{sum, orderIn}
+use Rattle.meaning.specs.Model.{item, truck, truckOf, x, y, orientation, IM}
+use Rattle.meaning.specs.Table.{instanceIn, stacksIn}
+use Rattle.meaning.specs.InRange.{TruckInRange}
+use Rattle.meaning.specs.Measures.{sl, sw, xe, ye, weight, sm, supplierOrder, plantDockOrder}
+use Rattle.meaning.proofs.Orders.{order-in, order-stands}
+use Rattle.table.specs.Filled.{Filled, stackAt, itemMost}
+use Rattle.table.proofs.Bounds.{item-most}
+use Rattle.table.proofs.Access.{item-in, truck-in, stack-in}
+
+pub either-most : (b : Bool) (u v most : ℕ) → u ≤ most → v ≤ most → cond b u v ≤ most
+either-most true u v most h k = h
+either-most false u v most h k = k
+
+sum-most : (g : ℕ → ℕ) (most : ℕ) (l : List ℕ) → ((j : ℕ) → j < length l → g (getD l j 0) ≤ most) → sum g l ≤ most * length l
+unfolding sum
+sum-most g most [] h = omega arith
+sum-most g most (n ∷ l) h = omega (arith, h 0 (omega arith), sum-most g most l (λ j k. h (suc j) (omega arith)))
+
+-- a loading order goes up to the length of its list
+pub order-most : (most : ℕ) (l : List ℕ) (n : ℕ) → length l ≤ most → orderIn l n ≤ most
+order-most most l n few = go (decLe 1 (orderIn l n))
+  where
+    go : Dec (1 ≤ orderIn l n) → orderIn l n ≤ most
+    go (yes h) = omega (arith, order-stands l n (order-in l n .0 h) .upTo)
+    go (no h) = omega arith
+
+module _ {m : Limits} {t : List ℕ} (h : Filled m t) (s : ℕ) (l : s < length (stacksIn m t)) where
+  -- a field of an item of the load
+  pub entry-most : (j f : ℕ) → j < length (stackAt (stacksIn m t) s .load) → f < 16
+      → getD (item (instanceIn m t) (getD (stackAt (stacksIn m t) s .load) j 0)) f 0 ≤ itemMost f
+  entry-most j f k b = item-most _ (item-in h _ (stack-in h s l .entries j k)) f b
+
+  pub carrier-in : TruckInRange (truckOf (instanceIn m t) (stackAt (stacksIn m t) s))
+  carrier-in = truck-in h (truck (stackAt (stacksIn m t) s)) (stack-in h s l .within 1 (omega arith))
+
+  pub footprint-bounds : let i = instanceIn m t in let a = stackAt (stacksIn m t) s in (x a ≤ 20000) × (xe i a ≤ 40000) × (y a ≤ 20000) × (ye i a ≤ 40000)
+  footprint-bounds =
+      let i = instanceIn m t in
+      let a = stackAt (stacksIn m t) s in
+      let b = stack-in h s l in
+      let long = entry-most 0 0 (b .someEntry) (omega arith) in
+      let wide = entry-most 0 1 (b .someEntry) (omega arith) in
+      let along = either-most (eqb (orientation a) 1) (sl i a) (sw i a) 20000 long wide in
+      let across = either-most (eqb (orientation a) 1) (sw i a) (sl i a) 20000 wide long in
+      let atX = b .within 3 (omega arith) .1 in
+      let atY = b .within 4 (omega arith) .1 in
+      (atX, omega arith, atY, omega arith)
+
+  pub weight-bound : let a = stackAt (stacksIn m t) s in sm (instanceIn m t) a ≤ 50000 * length (a .load)
+  unfolding weight
+  weight-bound = sum-most (λ n. IM (item (instanceIn m t) n)) 50000 (stackAt (stacksIn m t) s .load) (λ j k. entry-most j 4 k (omega arith))
+
+  pub orders-bound : (n : ℕ) → plantDockOrder (instanceIn m t) (stackAt (stacksIn m t) s) (item (instanceIn m t) n) ≤ 8
+  orders-bound n = order-most 8 _ _ (carrier-in .plantDocks .most)
+
+  pub supplier-order-bound : supplierOrder (instanceIn m t) (stackAt (stacksIn m t) s) ≤ 8
+  supplier-order-bound = order-most 8 _ _ (carrier-in .suppliers .most)

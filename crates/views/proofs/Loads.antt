@@ -1,0 +1,170 @@
+-- Loops along a load: what is still to come, or what is done, is the rest of the list from a place on.
+use mathlib.Core.Path.{_≡_, refl, sym, ap, _∙_}
+use mathlib.Core.Bool.{Bool, true, false, not}
+use mathlib.Core.List.{List, [], _∷_, map}
+use Prim.Native.Nat.{ℕ, suc, _+_, _-_, _*_, _≤_, _<_}
+use native.Mathlib.Nat.{le-trans, mul-le-mul-left}
+use native.Mathlib.Numerals.{add-one}
+use native.Mathlib.Omega.{arith}
+use borrow.Author.Tests.{leb-true, eq-eqb, ne-eqb, not-true, not-false}
+use lib.Dec.{leb, eqb}
+use lib.ListN.{length, getD, drop, drop-of-length-le}
+use lib.Seq.{drop-cons}
+use Rattle.meaning.specs.Lists.{all, any, sum, dedup, listed, upFrom}
+use Rattle.meaning.specs.Model.{Instance, Stack, item, IG}
+use Rattle.meaning.specs.Measures.{plantDockOrder, plantDocksOf}
+use Rattle.meaning.specs.Rules.{plantDockCount}
+use Rattle.meaning.proofs.Lists.{all-reads, in-upFrom}
+use Rattle.table.specs.Filled.{itemMost}
+use Rattle.views.specs.declared.Span.{Span}
+use Rattle.views.specs.Views.{spanWith, spanOf, plantDockOrders, plantDocksFrom}
+
+-- ---- one element more
+module _ {A : Type 0} (l : List A) (j : ℕ) (d : A) where
+  -- on the way up
+  rest-next : j < length l → drop j l ≡ getD l j d ∷ drop (j + 1) l
+  rest-next h = rw (add-one, drop-cons l j d)
+
+  -- on the way down
+  rest-more : 0 < j → j ≤ length l → drop (j - 1) l ≡ getD l (j - 1) d ∷ drop j l
+  rest-more h k =
+      let b : j - 1 < length l = omega arith in
+      let next : suc (j - 1) ≡ j = omega arith in
+      drop-cons l (j - 1) d b ∙ ap (λ (n : ℕ). getD l (j - 1) d ∷ drop n l) next
+
+-- ---- a sum, on the way up
+pub record Summed (g : ℕ → ℕ) (most : ℕ) (l : List ℕ) (from total j : ℕ) : Type 0 where
+  pub upto : j ≤ length l
+  pub rest : total + sum g (drop j l) ≡ sum g (drop from l)
+  pub few : total ≤ most * j
+
+module _ {g : ℕ → ℕ} {most : ℕ} {l : List ℕ} {from : ℕ} where
+  pub summed-start : from ≤ length l → Summed g most l from 0 from
+  summed-start h = record { upto = h; rest = omega arith; few = omega arith }
+
+  pub summed-more : {total j e r : ℕ} → Summed g most l from total j → j < length l → e ≡ getD l j 0 → r ≡ g e → r ≤ most
+      → Summed g most l from (total + r) (j + 1)
+  unfolding sum
+  summed-more {total} {j} {e} {r} h k ee er b =
+      let first : r ≡ g (getD l j 0) = er ∙ ap g ee in
+      let next = ap (sum g) (rest-next l j 0 k) in
+      record { upto = omega arith; rest = omega (arith, next, first, h .rest); few = omega (arith, h .few) }
+
+  -- a sum over a load stays far below the largest word
+  pub summed-room : {total j r : ℕ} → Summed g most l from total j → j ≤ 64 → r ≤ most → most ≤ 100000 → total + r ≤ 6500000
+  summed-room {total} {j} {r} h k b z = omega (arith, h .few, mul-le-mul-left most k)
+
+  pub summed-end : {total j : ℕ} → Summed g most l from total j → length l ≤ j → length l ≤ 64 → (total ≡ sum g (drop from l)) × (total ≤ most * 64)
+  unfolding sum
+  summed-end {total} {j} h k few =
+      let m : j ≤ 64 = omega (arith, h .upto) in
+      let none : sum g (drop j l) ≡ 0 = rw (drop-of-length-le l k) refl in
+      (omega (arith, h .rest, none), le-trans (h .few) (mul-le-mul-left most m))
+
+-- of an item's fields the daily cost ends highest
+pub item-ends : (f : ℕ) → f < 16 → itemMost f ≤ 100000
+unfolding all upFrom
+item-ends f h = leb-true _ _ (all-reads (λ k. leb (itemMost k) 100000) (upFrom 0 16) .0 refl f (in-upFrom 0 16 f .1 (omega arith, omega arith)))
+
+-- ---- the search for a plant dock, on the way up
+pub record Passed (i : Instance) (a : Stack) (dock from j : ℕ) : Type 0 where
+  pub upto : j ≤ length (a .load)
+  pub rest : listed dock (plantDocksFrom i a j) ≡ listed dock (plantDocksFrom i a from)
+
+module _ {i : Instance} {a : Stack} {dock from : ℕ} where
+  pub passed-start : from ≤ length (a .load) → Passed i a dock from from
+  passed-start h = record { upto = h; rest = refl }
+
+  module _ {j e r : ℕ} (h : Passed i a dock from j) (k : j < length (a .load)) (ee : e ≡ getD (a .load) j 0) (er : r ≡ IG (item i e)) where
+    here : IG (item i (getD (a .load) j 0)) ≡ r
+    here = sym (er ∙ ap (λ n. IG (item i n)) ee)
+
+    pub passed-found : r ≡ dock → true ≡ listed dock (plantDocksFrom i a from)
+    unfolding plantDocksFrom any
+    passed-found t = sym (rw (rest-next (a .load) j 0 k) (simp (eq-eqb dock _ (sym (here ∙ t))))) ∙ h .rest
+
+    pub passed-more : (r ≡ dock → ⊥) → Passed i a dock from (j + 1)
+    unfolding plantDocksFrom any
+    passed-more t = record { upto = omega arith; rest = sym (rw (rest-next (a .load) j 0 k) (simp (ne-eqb dock _ (λ q. t (sym here ∙ sym q))))) ∙ h .rest }
+
+  pub passed-end : {j : ℕ} → Passed i a dock from j → length (a .load) ≤ j → false ≡ listed dock (plantDocksFrom i a from)
+  unfolding plantDocksFrom any
+  passed-end {j} h k = sym (rw (drop-of-length-le (a .load) k) refl) ∙ h .rest
+
+-- ---- a value that is worked out on the way down, as a definition by the first element has it
+pub record Down {A B : Type 0} (value : List A → B) (l : List A) (j : ℕ) (v : B) : Type 0 where
+  pub upto : j ≤ length l
+  pub is : v ≡ value (drop j l)
+
+module _ {A B : Type 0} {value : List A → B} {l : List A} where
+  down-start : {j : ℕ} → j ≡ length l → Down value l j (value [])
+  down-start {j} e =
+      let k : length l ≤ j = omega arith in
+      record { upto = omega arith; is = ap value (sym (drop-of-length-le l k)) }
+
+  down-more : (d : A) {j : ℕ} {u v : B} → Down value l j u → 0 < j → v ≡ value (getD l (j - 1) d ∷ drop j l) → Down value l (j - 1) v
+  down-more d {j} h k e = record { upto = omega (arith, h .upto); is = e ∙ ap value (sym (rest-more l j d k (h .upto))) }
+
+  down-end : {j : ℕ} {v : B} → Down value l j v → j ≤ 0 → v ≡ value l
+  down-end {j} h k = let e : j ≡ 0 = omega arith in h .is ∙ ap (λ n. value (drop n l)) e
+
+-- the span of the plant dock orders
+module _ (i : Instance) (a : Stack) where
+  unfoldable pub spanOver : List ℕ → Span
+  spanOver ns = spanOf (map (λ n. plantDockOrder i a (item i n)) ns)
+
+  pub span-start : {j : ℕ} → j ≡ length (a .load) → Down spanOver (a .load) j (record { lowest = 8; highest = 0 })
+  unfolding spanOver spanOf
+  span-start e = down-start e
+
+  pub span-more : {j e order : ℕ} {span wider : Span} → Down spanOver (a .load) j span → 0 < j → e ≡ getD (a .load) (j - 1) 0
+      → order ≡ plantDockOrder i a (item i e) → wider ≡ spanWith order span → Down spanOver (a .load) (j - 1) wider
+  unfolding spanOver spanOf
+  span-more h k ee eo ew = down-more 0 h k (ew ∙ rw (eo, ee, h .is) refl)
+
+  pub span-end : {j : ℕ} {span : Span} → Down spanOver (a .load) j span → j ≤ 0 → span ≡ spanOf (plantDockOrders i a)
+  unfolding spanOver plantDockOrders
+  span-end h k = down-end h k
+
+-- how many plant docks: one is counted where no later item has it
+dedup-again : (n : ℕ) (l : List ℕ) → listed n l ≡ true → length (dedup eqb (n ∷ l)) ≡ length (dedup eqb l)
+unfolding dedup
+dedup-again n l e = rw e refl
+
+dedup-new : (n : ℕ) (l : List ℕ) → listed n l ≡ false → length (dedup eqb (n ∷ l)) ≡ length (dedup eqb l) + 1
+unfolding dedup
+dedup-new n l e = rw e (sym (add-one _))
+
+module _ (i : Instance) (a : Stack) where
+  unfoldable pub docksOver : List ℕ → ℕ
+  docksOver ns = length (dedup eqb (map (λ n. IG (item i n)) ns))
+
+  pub record Counted (j count : ℕ) : Type 0 where
+    pub down : Down docksOver (a .load) j count
+    pub few : count + j ≤ length (a .load)
+
+  pub counted-start : {j : ℕ} → j ≡ length (a .load) → Counted j 0
+  unfolding docksOver dedup
+  counted-start e = record { down = down-start e; few = omega arith }
+
+  -- `later` says whether an item from j on has the dock of the item before
+  module _ {j e dock count : ℕ} {later : Bool} (h : Counted j count) (k : 0 < j) (ee : e ≡ getD (a .load) (j - 1) 0) (ed : dock ≡ IG (item i e))
+      (el : later ≡ listed dock (plantDocksFrom i a j)) where
+    its-dock : listed (IG (item i (getD (a .load) (j - 1) 0))) (plantDocksFrom i a j) ≡ later
+    its-dock = sym (el ∙ ap (λ n. listed n (plantDocksFrom i a j)) (ed ∙ ap (λ n. IG (item i n)) ee))
+
+    pub counted-new : not later ≡ true → Counted (j - 1) (count + 1)
+    unfolding docksOver plantDocksFrom
+    counted-new t =
+        let more = dedup-new (IG (item i (getD (a .load) (j - 1) 0))) (plantDocksFrom i a j) (its-dock ∙ not-true later t) in
+        record { down = down-more 0 (h .down) k (ap (λ n. n + 1) (h .down .is) ∙ sym more); few = omega (arith, h .few) }
+
+    pub counted-again : not later ≡ false → Counted (j - 1) count
+    unfolding docksOver plantDocksFrom
+    counted-again t =
+        let same = dedup-again (IG (item i (getD (a .load) (j - 1) 0))) (plantDocksFrom i a j) (its-dock ∙ not-false later t) in
+        record { down = down-more 0 (h .down) k (h .down .is ∙ sym same); few = omega (arith, h .few) }
+
+  pub counted-end : {j count : ℕ} → Counted j count → j ≤ 0 → length (a .load) ≤ 64 → (count ≡ plantDockCount i a) × (count ≤ 64)
+  unfolding docksOver plantDocksOf
+  counted-end h k few = (down-end (h .down) k, omega (arith, h .few))
