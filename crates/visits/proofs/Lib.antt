@@ -1,0 +1,4 @@
+pub mod Order
+pub mod UsedTrucks
+pub mod RowMost
+pub mod Rows

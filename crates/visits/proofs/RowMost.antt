@@ -1,0 +1,108 @@
+-- How large the words of a row are.
+use mathlib.Core.Bool.{Bool, true, false, cond}
+use mathlib.Core.List.{List, [], _∷_, map}
+use Prim.Native.Nat.{ℕ, zero, suc, _≤_, _<_}
+use native.Mathlib.Omega.{arith}
+use lib.Dec.{eqb, ltb}
+use lib.ListN.{length, getD, length-map}
+use Rattle.meaning.specs.declared.Limits.{Limits}
+use Rattle.meaning.specs.Lists.{Every, any, dedup, orderIn}
+use Rattle.meaning.specs.Model.{Item, item, truckOf, IG, IU, IK}
+use Rattle.meaning.specs.Files.{docksLine}
+use Rattle.meaning.specs.Measures.{sm, bottom, docksOf, supplierDockOrder, plantDockOrder, plantDocksOf}
+use Rattle.meaning.specs.Rules.{plantDockCount}
+use Rattle.meaning.specs.Table.{instanceIn, stacksIn}
+use Rattle.meaning.specs.InRange.{Meets}
+use Rattle.meaning.proofs.Lists.{every-map}
+use Rattle.table.specs.Filled.{Filled, stackAt}
+use Rattle.table.proofs.Access.{stack-in}
+use Rattle.table.proofs.Bounds.{stack-most}
+use Rattle.views.specs.Views.{spanOf, plantDockOrders}
+use Rattle.views.proofs.Bounds.{either-most, order-most, entry-most, carrier-in, footprint-bounds, weight-bound, orders-bound, supplier-order-bound}
+use Rattle.visits.specs.Visits.{rowOf, rowMost}
+
+-- ---- lists
+-- each number of a list is at most the number at its place in another
+data AtMost : List ℕ → List ℕ → Type 0 where
+  none : AtMost [] []
+  _then_ : {a b : ℕ} {l m : List ℕ} → a ≤ b → AtMost l m → AtMost (a ∷ l) (b ∷ m)
+
+infixr 20 _then_
+most-at : {l m : List ℕ} → AtMost l m → (k : ℕ) → getD l k 0 ≤ getD m k 0
+most-at none k = omega arith
+most-at (h then r) zero = h
+most-at (h then r) (suc k) = most-at r k
+
+-- what holds of every element and of what stands in for one holds at every place
+every-or : {A : Type 0} (P : A → Type 0) (d : A) → P d → (l : List A) → Every P l → (k : ℕ) → P (getD l k d)
+every-or P d p [] h k = p
+every-or P d p (a ∷ l) h zero = h .0
+every-or P d p (a ∷ l) h (suc k) = every-or P d p l (h .1) k
+
+pub dedup-most : {A : Type 0} (same : A → A → Bool) (l : List A) → length (dedup same l) ≤ length l
+unfolding dedup
+dedup-most same [] = omega arith
+dedup-most same (a ∷ l) = go (dedup-most same l) (any (same a) l)
+  where
+    go : length (dedup same l) ≤ length l → (t : Bool) → length (cond t (dedup same l) (a ∷ dedup same l)) ≤ suc (length l)
+    go rec true = omega arith
+    go rec false = omega arith
+
+-- the span of loading orders up to 8
+spans-most : {A : Type 0} (f : A → ℕ) → ((a : A) → f a ≤ 8) → (l : List A) → (spanOf (map f l) .lowest ≤ 8) × (spanOf (map f l) .highest ≤ 8)
+unfolding spanOf
+spans-most f h [] = (omega arith, omega arith)
+spans-most f h (a ∷ l) =
+    let rest = spans-most f h l in
+    let span = spanOf (map f l) in
+    (either-most (ltb (f a) (span .lowest)) (f a) _ 8 (h a) (rest .0), either-most (ltb (span .highest) (f a)) (f a) _ 8 (h a) (rest .1))
+
+-- ---- the row of a stack of a filled table
+module _ {m : Limits} {t : List ℕ} (h : Filled m t) (s : ℕ) (l : s < length (stacksIn m t)) where
+  docks-most : plantDockCount (instanceIn m t) (stackAt (stacksIn m t) s) ≤ 64
+  unfolding plantDocksOf
+  docks-most =
+      let load = stackAt (stacksIn m t) s .load in
+      let dock : ℕ → ℕ = λ n. IG (item (instanceIn m t) n) in
+      omega (arith, dedup-most eqb (map dock load), length-map load dock, stack-in h s l .fewEntries)
+
+  dock-order-most : (a : Item) → supplierDockOrder (instanceIn m t) (stackAt (stacksIn m t) s) a ≤ 8
+  dock-order-most a =
+      let P : List ℕ → Type 0 = λ l. length l ≤ 8 in
+      let carrier = truckOf (instanceIn m t) (stackAt (stacksIn m t) s) in
+      let each : Every P ([] ∷ carrier .docks) = (omega arith, every-map (Meets docksLine) P (λ l e. e .most) (carrier .docks) (carrier-in h s l .docks)) in
+      order-most 8 (docksOf carrier (IU a)) (IK a) (every-or P [] (omega arith) ([] ∷ carrier .docks) each (orderIn (carrier .suppliers) (IU a)))
+
+  span-most : let span = spanOf (plantDockOrders (instanceIn m t) (stackAt (stacksIn m t) s)) in (span .lowest ≤ 8) × (span .highest ≤ 8)
+  unfolding plantDockOrders
+  span-most =
+      let a = stackAt (stacksIn m t) s in
+      spans-most (λ n. plantDockOrder (instanceIn m t) a (item (instanceIn m t) n)) (orders-bound h s l) (a .load)
+
+  pub row-most : (k : ℕ) → getD (rowOf (instanceIn m t) (stacksIn m t) s) k 0 ≤ rowMost k
+  row-most k =
+      let a = stackAt (stacksIn m t) s in
+      let b = stack-in h s l in
+      let own = stack-most _ _ a b (omega (arith, h .range .instance .truckCount, h .bounded .words)) in
+      let ground = footprint-bounds h s l in
+      let index : s ≤ 16777216 = omega (arith, h .range .stackCount, h .bounded .words) in
+      let heavy : sm (instanceIn m t) a ≤ 3200000 = omega (arith, weight-bound h s l, b .fewEntries) in
+      most-at
+      (index
+      then own 0 (omega arith)
+      then own 1 (omega arith)
+      then own 2 (omega arith)
+      then ground .0
+      then ground .1
+      then ground .2
+      then ground .3
+      then heavy
+      then docks-most
+      then entry-most h s l 0 13 (b .someEntry) (omega arith)
+      then entry-most h s l 0 14 (b .someEntry) (omega arith)
+      then supplier-order-bound h s l
+      then dock-order-most (bottom (instanceIn m t) a)
+      then span-most .0
+      then span-most .1
+      then none)
+      k

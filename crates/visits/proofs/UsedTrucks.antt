@@ -1,0 +1,206 @@
+-- Used trucks in the visiting order: the stacks of each stand together, by ascending number.
+use mathlib.Core.Path.{_≡_, sym, ap, subst, _∙_}
+use mathlib.Core.Logic.{inl, inr, ⊎-elim}
+use mathlib.Core.Bool.{Bool, true, false, not}
+use mathlib.Core.List.{List, [], _∷_, _++_, map}
+use Prim.Native.Nat.{ℕ, zero, suc, _+_, _-_, _*_, _≤_, _<_}
+use native.Mathlib.Nat.{eq-or-lt-of-le}
+use native.Mathlib.Omega.{arith}
+use borrow.Author.Tests.{not-true, not-false}
+use lib.ListN.{length, getD, drop, length-take, length-drop, length-map, take-append-drop}
+use lib.Seq.{getD-take, getD-drop, drop-drop}
+use Rattle.meaning.specs.declared.Limits.{Limits}
+use Rattle.meaning.specs.Lists.{In, Every}
+use Rattle.meaning.specs.Model.{Stack, number, truck, copy}
+use Rattle.meaning.specs.Measures.{UsedTruck, usedBy, sameUsed}
+use Rattle.meaning.specs.Table.{instanceIn, stacksIn}
+use Rattle.meaning.specs.InRange.{StacksInRange}
+use Rattle.meaning.proofs.Tests.{true≢false, fails}
+use Rattle.meaning.proofs.Lists.{NoRepeat, at-in, in-map, every-at, every-map, every-reads}
+use Rattle.meaning.proofs.Permute.{map-perm, noRepeat-perm}
+use Rattle.meaning.proofs.Sound.{not-taken}
+use Rattle.meaning.proofs.RuleKinds.{used-reads}
+use Rattle.table.specs.Filled.{Filled, noStack}
+use Rattle.table.proofs.Parts.{map-at}
+use Rattle.table.proofs.Bounds.{StackBounded, stacks-bounded}
+use Rattle.visits.specs.Visits.{visitOrder, visitAt, visited, block, OneTruck, Parted}
+use Rattle.visits.proofs.Order.{order-within, order-rising, visited-length, visited-at, visited-perm}
+
+-- ---- places of a list
+module _ {A : Type 0} (d : A) where
+  -- where no element stands twice, two places have different elements
+  noRepeat-at : (l : List A) → NoRepeat l → (j k : ℕ) → j < k → k < length l → getD l j d ≡ getD l k d → ⊥
+  noRepeat-at [] h j k less inside e = omega arith
+  noRepeat-at (a ∷ l) h j zero less inside e = omega arith
+  noRepeat-at (a ∷ l) h zero (suc k) less inside e = h .0 (subst (λ (b : A). In b l) (sym e) (at-in l d k (omega arith)))
+  noRepeat-at (a ∷ l) h (suc j) (suc k) less inside e = noRepeat-at l (h .1) j k (omega arith) (omega arith) e
+
+  -- each element has a place
+  pub in-at : (l : List A) (a : A) → In a l → (k : ℕ) × (k < length l) × (a ≡ getD l k d)
+  in-at [] a m = absurd m
+  in-at (b ∷ l) a (inl e) = (0, omega arith, e)
+  in-at (b ∷ l) a (inr m) = let w = in-at l a m in (suc (w .0), omega (arith, w .1), w .2)
+
+-- ---- what the ranges give
+-- copies and numbers that have room in the key, and no number twice
+pub record Keyed (p : List Stack) : Type 0 where
+  pub small : Every (λ (s : Stack). (copy s ≤ 99) × (number s ≤ 65535)) p
+  pub once : NoRepeat (map number p)
+
+numbers-once : (most items trucks : ℕ) (taken : List ℕ) (held : ℕ) (p : List Stack) → StacksInRange most items trucks taken held p → NoRepeat (map number p)
+numbers-once most items trucks taken held [] h = tt
+numbers-once most items trucks taken held (s ∷ p) h = (
+  (λ m.
+      let w = in-map number p (number s) .0 m in
+      not-taken most items trucks (number s ∷ taken) (held + length (s .load)) p (h .2) (w .0) (w .1) (inl (sym (w .2)))),
+  numbers-once most items trucks (number s ∷ taken) (held + length (s .load)) p (h .2),
+)
+
+pub filled-keyed : {m : Limits} {t : List ℕ} → Filled m t → Keyed (stacksIn m t)
+filled-keyed {m} {t} h =
+    let items = length (instanceIn m t .items) in
+    let trucks = length (instanceIn m t .trucks) in
+    record {
+      small = every-map (StackBounded items trucks) (λ (s : Stack). (copy s ≤ 99) × (number s ≤ 65535))
+          (λ s b. (b .within 2 (omega arith) .1, b .within 0 (omega arith) .1)) (stacksIn m t)
+          (stacks-bounded (m .loads) items trucks [] 0 (stacksIn m t) (h .range .stacks));
+      once = numbers-once (m .loads) items trucks [] 0 (stacksIn m t) (h .range .stacks);
+    }
+
+-- ---- what the key keeps apart
+-- where it does not fall, neither does the truck, nor on one truck the copy, nor on one used truck the number
+key-parts : (a b c a′ b′ c′ : ℕ) → b ≤ 99 → c ≤ 65535 → b′ ≤ 99 → c′ ≤ 65535 → (a * 100 + b) * 65536 + c ≤ (a′ * 100 + b′) * 65536 + c′
+    → (a ≤ a′) × (a ≡ a′ → b ≤ b′) × (a ≡ a′ → b ≡ b′ → c ≤ c′)
+key-parts a b c a′ b′ c′ h i h′ i′ k = omega arith
+
+same-truck : (s r : Stack) → usedBy s ≡ usedBy r → truck s ≡ truck r
+same-truck s r e = ap (λ (u : UsedTruck). u .truck) e
+
+same-copy : (s r : Stack) → usedBy s ≡ usedBy r → copy s ≡ copy r
+same-copy s r e = ap (λ (u : UsedTruck). u .copy) e
+
+-- ---- stacks of one used truck stand together
+module _ {p : List Stack} (h : Keyed p) where
+  small-at : (k : ℕ) → k < length p → (copy (visitAt p k) ≤ 99) × (number (visitAt p k) ≤ 65535)
+  small-at k inside = every-at (λ (s : Stack). (copy s ≤ 99) × (number s ≤ 65535)) p noStack (getD (visitOrder p) k 0) (h .small) (order-within p k inside)
+
+  number-at : (k : ℕ) → k < length p → getD (map number (visited p)) k 0 ≡ number (visitAt p k)
+  number-at k inside = map-at number (visited p) k noStack 0 (rw (visited-length p) inside) ∙ ap number (visited-at p k inside)
+
+  differ : (j k : ℕ) → j < k → k < length p → number (visitAt p j) ≡ number (visitAt p k) → ⊥
+  differ j k less inside e =
+      noRepeat-at 0 (map number (visited p)) (noRepeat-perm (map-perm number (visited-perm p)) (h .once)) j k less
+      (rw (length-map (visited p) number, visited-length p) inside) (number-at j (omega arith) ∙ e ∙ sym (number-at k inside))
+
+  rising-parts : (j k : ℕ) → j ≤ k → k < length p
+      → (truck (visitAt p j) ≤ truck (visitAt p k))
+      × (truck (visitAt p j) ≡ truck (visitAt p k) → copy (visitAt p j) ≤ copy (visitAt p k))
+      × (truck (visitAt p j) ≡ truck (visitAt p k) → copy (visitAt p j) ≡ copy (visitAt p k) → number (visitAt p j) ≤ number (visitAt p k))
+  rising-parts j k upto inside =
+      let b = small-at j (omega arith) in
+      let c = small-at k inside in
+      key-parts _ _ _ _ _ _ (b .0) (b .1) (c .0) (c .1) (order-rising p j k upto inside)
+
+  -- on one used truck they are visited by ascending number
+  pub number-rising : (j k : ℕ) → j < k → k < length p → usedBy (visitAt p j) ≡ usedBy (visitAt p k) → number (visitAt p j) < number (visitAt p k)
+  number-rising j k less inside e =
+      let s = visitAt p j in
+      let r = visitAt p k in
+      ⊎-elim (λ q. absurd (differ j k less inside q)) (λ q. q)
+      (eq-or-lt-of-le (rising-parts j k (omega arith) inside .2 (same-truck s r e) (same-copy s r e)))
+
+  -- and what is visited between two of them is on it too
+  pub used-between : (j i k : ℕ) → j ≤ i → i ≤ k → k < length p → usedBy (visitAt p j) ≡ usedBy (visitAt p k) → usedBy (visitAt p i) ≡ usedBy (visitAt p k)
+  used-between j i k low high inside e =
+      let s = visitAt p j in
+      let r = visitAt p k in
+      let below = rising-parts j i low (omega arith) in
+      let above = rising-parts i k high inside in
+      let t : truck (visitAt p i) ≡ truck r = omega (arith, below .0, above .0, same-truck s r e) in
+      let c : copy (visitAt p i) ≡ copy r = omega (arith, below .1 (same-truck s r e ∙ sym t), above .1 t, same-copy s r e) in
+      λ z. record { truck = t z; copy = c z }
+
+  -- ---- going down from the last stack of a used truck
+  one-truck : (start end : ℕ) → start < end → end ≤ length p
+      → ((k : ℕ) → start ≤ k → k < end → usedBy (visitAt p k) ≡ usedBy (visitAt p start)) → OneTruck p start end
+  one-truck start end some within same =
+      record {
+        some = some;
+        within = within;
+        same = same;
+        rising = λ j k from less up. number-rising j k less (omega arith) (same j from (omega arith) ∙ sym (same k (omega arith) up));
+      }
+
+  pub truck-last : (end : ℕ) → 1 ≤ end → end ≤ length p → OneTruck p (end - 1) end
+  truck-last end some within =
+      one-truck (end - 1) end (omega arith) within (λ k from up. let e : k ≡ end - 1 = omega arith in ap (λ j. usedBy (visitAt p j)) e)
+
+  module _ {start end : ℕ} (one : OneTruck p start end) (more : 0 < start) where
+    pub truck-on : (same : Bool) → same ≡ sameUsed (usedBy (visitAt p (end - 1))) (usedBy (visitAt p (start - 1))) → not same ≡ false
+        → OneTruck p (start - 1) end
+    truck-on same e q =
+        let s = visitAt p (end - 1) in
+        let r = visitAt p (start - 1) in
+        let last = used-reads (usedBy s) (usedBy r) .0 (sym e ∙ not-false same q) in
+        one-truck (start - 1) end (omega (arith, one .some)) (one .within)
+        (λ k from up.
+        ⊎-elim (λ z. ap (λ j. usedBy (visitAt p j)) (sym z))
+        (λ l. one .same k (omega arith) up ∙ sym (one .same (end - 1) (omega (arith, one .some)) (omega arith)) ∙ last) (eq-or-lt-of-le from))
+
+    pub truck-found : (same : Bool) → same ≡ sameUsed (usedBy (visitAt p (end - 1))) (usedBy (visitAt p (start - 1))) → not same ≡ true → Parted p start
+    truck-found same e q =
+        let s = visitAt p (end - 1) in
+        let r = visitAt p (start - 1) in
+        record {
+          apart = λ j k low high inside.
+              fails (sameUsed (usedBy (visitAt p j)) (usedBy (visitAt p k))) (λ z.
+              let one-used = used-reads (usedBy (visitAt p j)) (usedBy (visitAt p k)) .0 z in
+              let before = used-between j (start - 1) k (omega arith) (omega arith) inside one-used in
+              let first = used-between j start k (omega arith) high inside one-used in
+              let last = one .same (end - 1) (omega (arith, one .some)) (omega (arith, one .some)) in
+              true≢false (sym (used-reads (usedBy s) (usedBy r) .1 (last ∙ first ∙ sym before)) ∙ sym e ∙ not-true same q));
+        }
+
+-- ---- places that part nothing
+pub parted-first : (p : List Stack) (end : ℕ) → end ≤ 0 → Parted p end
+parted-first p end none = record { apart = λ j k low high inside. absurd (omega arith) }
+
+pub parted-end : (p : List Stack) → Parted p (length p)
+parted-end p = record { apart = λ j k low high inside. absurd (omega arith) }
+
+-- ---- the stacks of one used truck, as a list
+pub block-split : (p : List Stack) (start end : ℕ) → start ≤ end → drop start (visited p) ≡ block p start end ++ drop end (visited p)
+block-split p start end upto =
+    let e : start + (end - start) ≡ end = omega arith in
+    sym (take-append-drop (end - start) (drop start (visited p)))
+    ∙ ap (λ (l : List Stack). block p start end ++ l) (drop-drop (end - start) start (visited p) ∙ ap (λ n. drop n (visited p)) e)
+
+module _ {p : List Stack} {start end : ℕ} (h : OneTruck p start end) where
+  pub block-length : length (block p start end) ≡ end - start
+  block-length = omega (arith, length-take (end - start) (drop start (visited p)), length-drop start (visited p), visited-length p, h .within)
+
+  pub block-at : (k : ℕ) → k < end - start → getD (block p start end) k noStack ≡ visitAt p (start + k)
+  block-at k inside =
+      rw (getD-take (end - start) (drop start (visited p)) k noStack inside, getD-drop start (visited p) k noStack)
+      (visited-at p (start + k) (omega (arith, h .within)))
+
+  -- each is visited at a place from `start` up to `end`
+  pub block-place : (s : Stack) → In s (block p start end) → (k : ℕ) × (start ≤ k) × (k < end) × (s ≡ visitAt p k)
+  block-place s m =
+      let w = in-at noStack (block p start end) s m in
+      let inside : w .0 < end - start = rw block-length at (w .1) in
+      (start + w .0, omega arith, omega arith, w .2 ∙ block-at (w .0) inside)
+
+  pub block-used : Every (λ (s : Stack). usedBy s ≡ usedBy (visitAt p start)) (block p start end)
+  block-used =
+      every-reads (λ (s : Stack). usedBy s ≡ usedBy (visitAt p start)) (block p start end) .1
+      (λ s m. let w = block-place s m in ap usedBy (w .3) ∙ h .same (w .0) (w .1) (w .2))
+
+  -- and none from `end` on is on its used truck
+  pub block-apart : Parted p end → (s r : Stack) → In s (block p start end) → In r (drop end (visited p)) → sameUsed (usedBy s) (usedBy r) ≡ false
+  block-apart parted s r m n =
+      let w = block-place s m in
+      let v = in-at noStack (drop end (visited p)) r n in
+      let inside : end + v .0 < length p = omega (arith, v .1, length-drop end (visited p), visited-length p) in
+      let there : r ≡ visitAt p (end + v .0) = v .2 ∙ getD-drop end (visited p) (v .0) noStack ∙ visited-at p (end + v .0) inside in
+      rw (w .3, there) (parted .apart (w .0) (end + v .0) (w .2) (omega arith) inside)
