@@ -1,0 +1,4 @@
+pub mod Items
+pub mod Tally
+pub mod Docks
+pub mod Stacks

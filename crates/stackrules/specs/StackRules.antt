@@ -1,0 +1,41 @@
+-- The rules whose places begin with a stack's number and whose test looks at that stack alone, by the names that the code has for them.
+use mathlib.Core.Path.{_≡_}
+use mathlib.Core.Bool.{Bool}
+use mathlib.Core.List.{List}
+use Prim.Native.Nat.{ℕ, _-_, _≤_}
+use lib.ListN.{length, getD}
+use Rattle.meaning.specs.declared.Place.{Place}
+use Rattle.meaning.specs.Lists.{any, orderFrom}
+use Rattle.meaning.specs.Model.{Instance, Stack, Item}
+use Rattle.meaning.specs.Measures.{weight, height, sm, plantDocksOf}
+use Rattle.meaning.specs.Rules.{itemPlaces, stackPlaces, plantMatches, productCarried, supplierVisited, arrivesInWindow, docksServed, stackable}
+use Rattle.meaning.specs.Rules.{plantDocksAllowed, plantDockCount, consecutive, orientationKept, topWeightWithin, weightAbove, stackabilityKept, itemCount}
+use Rattle.meaning.specs.Rules.{densityWithin, inside, exceededSide, timesLoaded}
+use Rattle.stackrules.specs.declared.ItemRule.{ItemRule}
+use Rattle.stackrules.specs.declared.ItemRule.the-variants.{Plant, Product, Supplier, Day, Dock, Mixed, Turned}
+use Rattle.stackrules.specs.declared.StackRule.{StackRule}
+use Rattle.stackrules.specs.declared.StackRule.the-variants.{EachItem, Docks, TopHeavy, TooMany, Dense, Outside}
+
+-- when a rule on an item of a stack is kept
+abbrev pub itemTest : ItemRule → Instance → Stack → Item → Bool
+itemTest Plant i s a = plantMatches i s a
+itemTest Product i s a = productCarried i s a
+itemTest Supplier i s a = supplierVisited i s a
+itemTest Day i s a = arrivesInWindow i s a
+itemTest Dock i s a = docksServed i s a
+itemTest Mixed i s a = stackable i s a
+itemTest Turned i s a = orientationKept i s a
+
+-- where a rule on stacks is broken
+abbrev pub stackRulePlaces : StackRule → Instance → List Stack → List Place
+stackRulePlaces (EachItem rule) i p = itemPlaces (itemTest rule) i p
+stackRulePlaces Docks i p = stackPlaces plantDocksAllowed plantDockCount i p
+stackRulePlaces TopHeavy i p = stackPlaces topWeightWithin weightAbove i p
+stackRulePlaces TooMany i p = stackPlaces stackabilityKept itemCount i p
+stackRulePlaces Dense i p = stackPlaces densityWithin sm i p
+stackRulePlaces Outside i p = stackPlaces inside exceededSide i p
+
+-- the words hold how often these stacks load each of the first `items` items
+pub record Tally (items : ℕ) (p : List Stack) (times : List ℕ) : Type 0 where
+  pub room : items ≤ length times
+  pub counts : (n : ℕ) → 1 ≤ n → n ≤ items → getD times (n - 1) 0 ≡ timesLoaded p n
