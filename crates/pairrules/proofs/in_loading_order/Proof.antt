@@ -1,0 +1,43 @@
+-- `pairrules::in_loading_order`: a stack with no greater x keeps the rule; behind the other it keeps it unless its rank comes before.
+use borrow.Author.Needs.{needs}
+use Rattle.pairrules.proofs.Ranks.{few-orders, front-kept, behind-kept}
+use Rattle.pairrules.proofs.in_loading_order.Statement.{statement}
+use Rattle.pairrules.proofs.in_loading_order.Tie as tie
+
+row-word-requires : tie.Need-row-word-requires
+row-word-requires c κs = search needs
+
+row-word-requires-2 : tie.Need-row-word-requires-2
+row-word-requires-2 c κs = search needs
+
+returns : tie.Need-returns
+returns c = front-kept _ _ _ (c .before .before .row-word .ensures .0) (c .before .row-word2 .ensures .0) (c .if1 .taken)
+
+rank-at-requires : tie.Need-rank-at-requires
+rank-at-requires c κs = search needs
+
+rank-at-requires-2 : tie.Need-rank-at-requires-2
+rank-at-requires-2 c κs = search needs
+
+loads-before-requires : tie.Need-loads-before-requires
+loads-before-requires c κs = search needs
+
+returns-2 : tie.Need-returns-2
+returns-2 c =
+    let o = c .before .before .before in
+    let p = o .before .before .before .before .before .pre in
+    behind-kept _ _ _ (o .before .before .row-word .ensures .0) (o .before .row-word2 .ensures .0) (o .if1 .left)
+    (few-orders (p .0 .filled) _ (p .1)) (few-orders (p .0 .filled) _ (p .2))
+    (c .before .before .rank-at .ensures) (c .before .rank-at2 .ensures) (c .loads-before .ensures)
+
+pub in-loading-order-spec : {M : Type 1} → statement M
+in-loading-order-spec =
+    tie.close
+    (tie.spec
+    row-word-requires
+    row-word-requires-2
+    returns
+    rank-at-requires
+    rank-at-requires-2
+    loads-before-requires
+    returns-2)

@@ -1,0 +1,55 @@
+-- `pairrules::pair_kept`: each rule is a case of the definition, and its test is the model's.
+use mathlib.Core.Path.{refl, _∙_}
+use borrow.Author.Needs.{needs}
+use Rattle.pairrules.proofs.pair_kept.Statement.{statement}
+use Rattle.pairrules.proofs.pair_kept.Tie as tie
+
+enum-told : tie.Need-enum-told
+enum-told c = search needs
+
+is-single-pair-requires : tie.Need-is-single-pair-requires
+is-single-pair-requires c κs = search needs
+
+enum-told-2 : tie.Need-enum-told-2
+enum-told-2 c = search needs
+
+footprint-at-requires : tie.Need-footprint-at-requires
+footprint-at-requires c κs = search needs
+
+footprint-at-requires-2 : tie.Need-footprint-at-requires-2
+footprint-at-requires-2 c κs = search needs
+
+is-apart-requires : tie.Need-is-apart-requires
+is-apart-requires c κs = search needs
+
+enum-told-3 : tie.Need-enum-told-3
+enum-told-3 c = search needs
+
+in-loading-order-requires : tie.Need-in-loading-order-requires
+in-loading-order-requires c κs = search needs
+
+returns : tie.Need-returns
+returns c = rw (c .before .enum-told .given .1) (c .is-single-pair .ensures)
+
+returns-2 : tie.Need-returns-2
+returns-2 c = rw (c .before .before .before .enum-told2 .given .1)
+    (c .is-apart .ensures ∙ rw (c .before .before .footprint-at .ensures, c .before .footprint-at2 .ensures) refl)
+
+returns-3 : tie.Need-returns-3
+returns-3 c = rw (c .before .enum-told3 .given .1) (c .in-loading-order .ensures)
+
+pub pair-kept-spec : {M : Type 1} → statement M
+pair-kept-spec =
+    tie.close
+    (tie.spec
+    enum-told
+    is-single-pair-requires
+    enum-told-2
+    footprint-at-requires
+    footprint-at-requires-2
+    is-apart-requires
+    enum-told-3
+    in-loading-order-requires
+    returns
+    returns-2
+    returns-3)
