@@ -1,0 +1,145 @@
+-- The searches: an axle at a departure of numbers that were read, and the places of one used truck.
+use mathlib.Core.Path.{_≡_, refl, sym, ap, _∙_}
+use mathlib.Core.Logic.{_↔_}
+use mathlib.Core.Bool.{Bool, true, not, _&&_}
+use mathlib.Core.List.{List, [], _∷_, map, flatMap, append-nil}
+use Prim.Native.Nat.{ℕ, zero, suc, _+_, _-_, _≤_, _<_}
+use native.Mathlib.Omega.{arith}
+use lib.Dec.{leb}
+use lib.IntN.{ℤ}
+use lib.ListN.{length, getD}
+use mir.Syntax.{w64}
+use mir.Val.{SFits, toZ, ofZ}
+use mir.Facts.{toZ-ofZ}
+use Rattle.meaning.specs.declared.Limits.{Limits}
+use Rattle.meaning.specs.declared.Place.{Place}
+use Rattle.meaning.specs.Lists.{Every, any, filter, dedup, onlyIf, upFrom}
+use Rattle.meaning.specs.Places.{place}
+use Rattle.meaning.specs.Model.{Instance, Truck, Stack, truckNumbered, TMm, CM, CJfm, CJfc, CJfh, EM, EJhr, EMmr, EMmm}
+use Rattle.meaning.specs.Measures.{UsedTruck, usedBy, sameUsed, supplierOrder, usedTrucks, stacksOn, stacksAt, departures, weightOn, H}
+use Rattle.meaning.specs.Rules.{truckPlaces, departurePlaces, counts, withinLoadLimit, middleAxleHolds, rearAxleHolds}
+use Rattle.meaning.specs.Table.{instanceIn, stacksIn}
+use Rattle.meaning.proofs.Tests.{between-reads}
+use Rattle.meaning.proofs.Lists.{every-map, every-reads}
+use Rattle.meaning.proofs.RuleKinds.{used-reads}
+use Rattle.table.specs.Filled.{Filled, noStack}
+use Rattle.search.specs.Lowest.{lowestIn}
+use Rattle.visits.specs.Visits.{visitOrder, visitAt, block, OneTruck}
+use Rattle.visits.proofs.Order.{length-upFrom, order-within}
+use Rattle.visits.proofs.UsedTrucks.{in-at, block-length, block-at, block-used}
+use Rattle.visits.proofs.RowMost.{row-most}
+use Rattle.axles.specs.Aboard.{aboard, middleHolds, rearHolds}
+
+-- ---- an axle at a departure
+-- a signed number that is handed on
+handed : {y z : ℤ} → SFits w64 y → y ≡ z → toZ w64 (ofZ w64 y) ≡ z
+handed f e = toZ-ofZ {w = w64} f ∙ e
+
+module _ (i : Instance) (t : Truck) (on : List Stack) {h : ℤ} (fits : SFits w64 h) (eh : h ≡ H i t on) where
+  pub middle-is : {ejhr cm cjfc cjfh cjfm emmm : ℕ} → ejhr ≡ EJhr t → cm ≡ CM t → cjfc ≡ CJfc t → cjfh ≡ CJfh t → cjfm ≡ CJfm t → emmm ≡ EMmm t
+      → middleHolds (toZ w64 (ofZ w64 h)) ejhr cm cjfc cjfh cjfm emmm ≡ middleAxleHolds i t on
+  unfolding middleHolds middleAxleHolds
+  middle-is e1 e2 e3 e4 e5 e6 = rw (handed fits eh, e1, e2, e3, e4, e5, e6) refl
+
+  pub rear-is : {ejhr weight em emmr : ℕ} → ejhr ≡ EJhr t → weight ≡ weightOn i on → em ≡ EM t → emmr ≡ EMmr t
+      → rearHolds (toZ w64 (ofZ w64 h)) ejhr weight em emmr ≡ rearAxleHolds i t on
+  unfolding rearHolds rearAxleHolds
+  rear-is e1 e2 e3 e4 = rw (handed fits eh, e1, e2, e3, e4) refl
+
+-- ---- stacks that are all on one used truck
+one-left : {A B : Type 0} (same : B → B → Bool) (reads : (a b : B) → (same a b ≡ true) ↔ (a ≡ b)) (f : A → B) (u : B) (l : List A) → 0 < length l
+    → Every (λ (a : A). f a ≡ u) l → dedup same (map f l) ≡ u ∷ []
+unfolding dedup any
+one-left same reads f u [] some h = absurd (omega arith)
+one-left same reads f u (a ∷ []) some h = ap (λ b. b ∷ []) (h .0)
+one-left same reads f u (a ∷ b ∷ l) some h = rw (reads (f a) (f b) .1 (h .0 ∙ sym (h .1 .0))) (one-left same reads f u (b ∷ l) (omega arith) (h .1))
+
+filter-all : {A : Type 0} (test : A → Bool) (l : List A) → Every (λ (a : A). test a ≡ true) l → filter test l ≡ l
+unfolding filter
+filter-all test [] h = refl
+filter-all test (a ∷ l) h = rw (h .0, filter-all test l (h .1)) refl
+
+-- the place of a departure that counts and at which a rule is broken
+unfoldable pub departureAt : (Instance → Truck → List Stack → Bool) → Instance → UsedTruck → List Stack → ℕ → List Place
+unfolding aboard
+departureAt kept i u p k =
+    let on = aboard i p 1 k in
+    onlyIf (counts on && not (kept i (truckNumbered i (u .truck)) on)) (place (u .truck) (u .copy) k)
+
+module _ (i : Instance) (kept : Instance → Truck → List Stack → Bool) (u : UsedTruck) (p : List Stack) (some : 0 < length p)
+    (one : Every (λ (s : Stack). usedBy s ≡ u) p) where
+  used-one : usedTrucks p ≡ u ∷ []
+  unfolding usedTrucks
+  used-one = one-left sameUsed used-reads usedBy u p some one
+
+  all-on : stacksOn p u ≡ p
+  unfolding stacksOn
+  all-on = filter-all _ p (every-map _ _ (λ s e. used-reads u (usedBy s) .1 (sym e)) p one)
+
+  truck-one : truckPlaces kept i p ≡ onlyIf (not (kept i (truckNumbered i (u .truck)) p)) (place (u .truck) (u .copy) 0)
+  unfolding truckPlaces flatMap
+  truck-one = rw (used-one, all-on) (append-nil _)
+
+  departures-one : departurePlaces kept i p ≡ flatMap (departureAt kept i u p) (departures i u)
+  unfolding departurePlaces flatMap departureAt stacksAt aboard
+  departures-one = rw used-one (append-nil _) ∙ ap (λ (on : List Stack). flatMap (departureAt kept i u on) (departures i u)) all-on
+
+-- ---- loading orders from 0 to 8 are all that there are
+all-aboard : (i : Instance) (p : List Stack) → Every (λ (s : Stack). supplierOrder i s ≤ 8) p → aboard i p 0 8 ≡ p
+unfolding aboard
+all-aboard i p h = filter-all _ p (every-map _ _ (λ s k. between-reads 0 8 (supplierOrder i s) .1 (omega arith, k)) p h)
+
+pub orders-few : {m : Limits} {t : List ℕ} {start end : ℕ} → Filled m t → OneTruck (stacksIn m t) start end
+    → Every (λ (s : Stack). supplierOrder (instanceIn m t) s ≤ 8) (block (stacksIn m t) start end)
+orders-few {m} {t} {start} {end} filled h =
+    let p = stacksIn m t in
+    let on = block p start end in
+    every-reads (λ (s : Stack). supplierOrder (instanceIn m t) s ≤ 8) on .1 (λ s e.
+    let w = in-at noStack on s e in
+    let inside : w .0 < end - start = omega (arith, w .1, block-length h) in
+    let place = order-within p (start + w .0) (omega (arith, h .within)) in
+    rw (w .2, block-at h (w .0) inside) (row-most filled (getD (visitOrder p) (start + w .0) 0) place 12))
+
+-- ---- numbers counted up
+upFrom-at : (a n k d : ℕ) → k < n → getD (upFrom a n) k d ≡ a + k
+unfolding upFrom
+upFrom-at a zero k d h = absurd (omega arith)
+upFrom-at a (suc n) zero d h = omega arith
+upFrom-at a (suc n) (suc k) d h = upFrom-at (suc a) n k d (omega arith) ∙ omega arith
+
+-- ---- the places of the used truck whose stacks are visited from `start` up to `end`
+module _ (i : Instance) {p : List Stack} {start end : ℕ} (h : OneTruck p start end) where
+  -- the used truck, and its stacks
+  abbrev usedAt : UsedTruck
+  usedAt = usedBy (visitAt p start)
+
+  abbrev on : List Stack
+  on = block p start end
+
+  some-on : 0 < length on
+  some-on = omega (arith, block-length h, h .some)
+
+  module _ {truck copy : ℕ} (et : truck ≡ usedAt .truck) (ec : copy ≡ usedAt .copy) where
+    pub overload-is : Every (λ (s : Stack). supplierOrder i s ≤ 8) on → {weight limit : ℕ} → weight ≡ weightOn i (aboard i on 0 8)
+        → limit ≡ TMm (truckNumbered i truck)
+        → lowestIn (onlyIf (not (leb weight limit)) (place truck copy 0)) ≡ lowestIn (truckPlaces withinLoadLimit i on)
+    unfolding withinLoadLimit
+    overload-is few ew el = rw (truck-one i withinLoadLimit usedAt on some-on (block-used h), ew, el, all-aboard i on few, et, ec) refl
+
+    pub departure-is : (kept : Instance → Truck → List Stack → Bool) (k : ℕ) {b holds : Bool} → b ≡ counts (aboard i on 1 k)
+        → holds ≡ kept i (truckNumbered i truck) (aboard i on 1 k)
+        → lowestIn (onlyIf (b && not holds) (place truck copy k)) ≡ lowestIn (departureAt kept i usedAt on k)
+    unfolding departureAt
+    departure-is kept k eb eh = rw (eb, eh, et, ec) refl
+
+  pub departures-length : {truck : ℕ} {list : List ℕ} → truck ≡ usedAt .truck → list ≡ truckNumbered i truck .suppliers
+      → length list ≡ length (departures i usedAt)
+  departures-length et e = rw (e, et) (sym (length-upFrom 1 _))
+
+  pub departure-at : {k : ℕ} → 0 < k → k ≤ length (departures i usedAt) → k ≡ getD (departures i usedAt) (k - 1) 0
+  departure-at {k} some upTo =
+      let n = length (truckNumbered i (usedAt .truck) .suppliers) in
+      omega (arith, upFrom-at 1 n (k - 1) 0 (omega (arith, length-upFrom 1 n)))
+
+  pub departures-are : (kept : Instance → Truck → List Stack → Bool) → departurePlaces kept i on ≡ flatMap (departureAt kept i usedAt on) (departures i usedAt)
+  departures-are kept = departures-one i kept usedAt on some-on (block-used h)

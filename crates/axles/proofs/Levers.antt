@@ -1,0 +1,111 @@
+-- Levers: how far from zero they are, one by one and together, and their sum with one visited stack more.
+use mathlib.Core.Path.{_≡_, refl}
+use mathlib.Core.Bool.{Bool, true, false, cond}
+use mathlib.Core.List.{List, [], _∷_}
+use Prim.Native.Nat.{ℕ, suc, _+_, _-_, _*_, _≤_, _<_}
+use native.Mathlib.Nat.{le-refl}
+use native.Mathlib.Omega.{arith}
+use lib.IntN.{ℤ, pos, natAbs, _+ℤ_, _-ℤ_, _*ℤ_, +ℤ-idl}
+use lib.ListN.{length, getD, take, drop, take-append-drop}
+use Rattle.meaning.specs.declared.Limits.{Limits}
+use Rattle.meaning.specs.Lists.{Every, filter, between, sum, sumℤ}
+use Rattle.meaning.specs.Model.{Instance, Truck, Stack, truckNumbered, x, EM, EJcr}
+use Rattle.meaning.specs.Measures.{sm, xe, supplierOrder, weightOn, lever, H}
+use Rattle.meaning.specs.Table.{instanceIn, stacksIn}
+use Rattle.meaning.proofs.Lists.{in-filter, every-reads, every-append}
+use Rattle.meaning.proofs.Permute.{every-perm}
+use Rattle.meaning.proofs.Ring.{less, same-less, ring}
+use Rattle.table.specs.Filled.{Filled, TruckNumber, noStack}
+use Rattle.table.proofs.Bounds.{truck-most}
+use Rattle.table.proofs.Access.{truck-in}
+use Rattle.visits.specs.Visits.{visitAt, visited, block}
+use Rattle.visits.proofs.Order.{visited-perm}
+use Rattle.visits.proofs.RowMost.{row-most}
+use Rattle.axles.specs.Aboard.{aboard, twiceA, leverBy, momentOf}
+use Rattle.axles.proofs.Aboard.{block-none, aboard-more}
+use Rattle.axles.proofs.Weights.{aboard-weight}
+use Rattle.axles.proofs.Signed.{less-size, plus-size, times-size}
+
+-- ---- one stack
+-- twice its middle is no further from the front wall than the greatest 2A
+abbrev Near : Instance → Stack → Type 0
+Near i s = x s + xe i s ≤ 80000
+
+distance-size : (a b e most : ℕ) → a ≤ most → b + e ≤ most → natAbs (pos a -ℤ pos b -ℤ pos e) ≤ most
+distance-size a b e most h k =
+    let is : pos a -ℤ pos b -ℤ pos e ≡ less a (b + e) = simp ring (same-less _ _ _ _ (omega arith)) in
+    rw is (less-size a (b + e) most h k)
+
+lever-size : (i : Instance) (t : Truck) (s : Stack) → twiceA t ≤ 80000 → Near i s → natAbs (lever i t s) ≤ sm i s * 80000
+unfolding lever
+lever-size i t s a h =
+    times-size (pos (sm i s)) (pos (twiceA t) -ℤ pos (x s) -ℤ pos (xe i s)) (le-refl (sm i s)) (distance-size (twiceA t) (x s) (xe i s) 80000 a h)
+
+-- the lever by plain numbers
+pub lever-by-is : (i : Instance) (t : Truck) (s : Stack) {w b e a : ℕ} → w ≡ sm i s → b ≡ x s → e ≡ xe i s → a ≡ twiceA t → leverBy w b e a ≡ lever i t s
+unfolding leverBy lever
+lever-by-is i t s ew eb ee ea = rw (ew, eb, ee, ea)
+
+-- ---- stacks together
+levers-size : (i : Instance) (t : Truck) (on : List Stack) → twiceA t ≤ 80000 → Every (Near i) on
+    → natAbs (sumℤ (lever i t) on) ≤ weightOn i on * 80000
+unfolding sumℤ weightOn sum
+levers-size i t [] a h = omega arith
+levers-size i t (s ∷ on) a h = omega (arith, plus-size (lever i t s) (sumℤ (lever i t) on) (lever-size i t s a (h .0)) (levers-size i t on a (h .1)))
+
+-- what holds at every place of a list, and so of the elements of its parts
+module _ {A : Type 0} (P : A → Type 0) where
+  every-place : (d : A) (l : List A) → ((k : ℕ) → k < length l → P (getD l k d)) → Every P l
+  every-place d [] h = tt
+  every-place d (a ∷ l) h = (h 0 (omega arith), every-place d l (λ k m. h (suc k) (omega arith)))
+
+  every-take : (n : ℕ) (l : List A) → Every P l → Every P (take n l)
+  every-take n l h = every-append P (take n l) (drop n l) .0 (rw (take-append-drop n l) h) .0
+
+  every-drop : (n : ℕ) (l : List A) → Every P l → Every P (drop n l)
+  every-drop n l h = every-append P (take n l) (drop n l) .0 (rw (take-append-drop n l) h) .1
+
+  every-filter : (test : A → Bool) (l : List A) → Every P l → Every P (filter test l)
+  every-filter test l h = every-reads P (filter test l) .1 (λ a m. every-reads P l .0 h a (in-filter test l a .0 m .0))
+
+-- the levers of some stacks of a block: at most 65536 entries of the loads, each of weight 50000 and with a distance of 80000
+pub aboard-size : {m : Limits} {t : List ℕ} → Filled m t → (n : ℕ) → TruckNumber (instanceIn m t) n → (start end departure : ℕ)
+    → natAbs (sumℤ (lever (instanceIn m t) (truckNumbered (instanceIn m t) n)) (aboard (instanceIn m t) (block (stacksIn m t) start end) 1 departure))
+    ≤ 262144000000000
+unfolding aboard
+aboard-size {m} {t} h n known start end departure =
+    let i = instanceIn m t in
+    let p = stacksIn m t in
+    let on = aboard i (block p start end) 1 departure in
+    let field = truck-most (truckNumbered i n .fields) (truck-in h n known .fields) in
+    let a : twiceA (truckNumbered i n) ≤ 80000 = omega (arith, field 17 (omega arith), field 15 (omega arith)) in
+    let plan : Every (Near i) p = every-place (Near i) noStack p (λ s l. omega (arith, row-most h s l 4, row-most h s l 5)) in
+    let visits = every-perm (Near i) (visited-perm p) plan in
+    let part = every-take (Near i) (end - start) (drop start (visited p)) (every-drop (Near i) start (visited p) visits) in
+    let near : Every (Near i) on = every-filter (Near i) _ (block p start end) part in
+    omega (arith, levers-size i (truckNumbered i n) on a near, aboard-weight h start end 1 departure)
+
+-- ---- one visited stack more
+module _ (i : Instance) (t : Truck) (p : List Stack) where
+  pub levers-none : (end departure : ℕ) → pos 0 ≡ sumℤ (lever i t) (aboard i (block p end end) 1 departure)
+  unfolding sumℤ
+  levers-none end departure = rw (block-none i p end 1 departure) refl
+
+  pub levers-more : {k next end : ℕ} → next ≡ k + 1 → k < end → end ≤ length p → (departure : ℕ)
+      → cond (between 1 departure (supplierOrder i (visitAt p k))) (lever i t (visitAt p k)) (pos 0)
+      +ℤ sumℤ (lever i t) (aboard i (block p next end) 1 departure)
+      ≡ sumℤ (lever i t) (aboard i (block p k end) 1 departure)
+  unfolding sumℤ
+  levers-more {k} {next} {end} step some within departure =
+      rw (aboard-more i p step some within 1 departure)
+      (more (between 1 departure (supplierOrder i (visitAt p k))) (visitAt p k) (aboard i (block p next end) 1 departure))
+    where
+      more : (b : Bool) (s : Stack) (on : List Stack) → cond b (lever i t s) (pos 0) +ℤ sumℤ (lever i t) on ≡ sumℤ (lever i t) (cond b (s ∷ on) on)
+      more true s on = refl
+      more false s on = +ℤ-idl (sumℤ (lever i t) on)
+
+-- H, by plain numbers
+pub moment-is : (i : Instance) (t : Truck) (on : List Stack) {levers : ℤ} {em ejcr : ℕ} → levers ≡ sumℤ (lever i t) on → em ≡ EM t → ejcr ≡ EJcr t
+    → levers +ℤ pos 2 *ℤ pos em *ℤ pos ejcr ≡ momentOf i t on
+unfolding H
+moment-is i t on e f g = rw (e, f, g)

@@ -1,0 +1,5 @@
+pub mod Weights
+pub mod Aboard
+pub mod Departures
+pub mod Signed
+pub mod Levers

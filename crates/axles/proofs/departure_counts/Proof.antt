@@ -1,0 +1,71 @@
+-- `axles::departure_counts`: no stack passed so far is on, so the departure counts exactly where one of those left is.
+use mathlib.Core.Path.{_≡_, refl, _∙_}
+use Prim.Native.Nat.{_-_, _≤_}
+use native.Mathlib.Omega.{arith}
+use borrow.Author.Needs.{needs}
+use Rattle.meaning.specs.Rules.{counts}
+use Rattle.meaning.specs.Table.{instanceIn, stacksIn}
+use Rattle.visits.specs.Visits.{block}
+use Rattle.axles.specs.Aboard.{aboard}
+use Rattle.axles.proofs.Aboard.{counts-none, counts-here, counts-later}
+use Rattle.axles.proofs.departure_counts.Statement.{statement}
+use Rattle.axles.proofs.departure_counts.Tie as tie
+
+abbrev Inv-loop : tie.InvT-loop
+Inv-loop t limits rows start end departure k₀ k =
+    (k ≤ end)
+    × (counts (aboard (instanceIn limits t) (block (stacksIn limits t) k end) 1 departure)
+    ≡ counts (aboard (instanceIn limits t) (block (stacksIn limits t) start end) 1 departure))
+
+abbrev μ-loop : tie.MeasureT-loop
+μ-loop t limits rows start end departure k₀ k = end - k
+
+loop-holds : tie.Need-loop-holds Inv-loop μ-loop
+loop-holds c = (omega arith, refl)
+
+is-aboard-requires : tie.Need-is-aboard-requires Inv-loop μ-loop
+is-aboard-requires c κs = search needs
+
+returns : tie.Need-returns Inv-loop μ-loop
+returns c =
+    let l = c .before .before .before in
+    let s = l .before .before .before in
+    let i = instanceIn (s .args .limits) (s .args .t .now) in
+    let p = stacksIn (s .args .limits) (s .args .t .now) in
+    counts-here i p refl (omega arith) (omega arith) (s .args .departure) (c .before .is-aboard .ensures) (c .if1 .taken) ∙ l .loop .inv .1
+
+add-k : tie.Need-add-k Inv-loop μ-loop
+add-k c = search needs
+
+loop-less : tie.Need-loop-less Inv-loop μ-loop
+loop-less c = search needs
+
+loop-again : tie.Need-loop-again Inv-loop μ-loop
+loop-again c =
+    let l = c .before .before .before in
+    let s = l .before .before .before in
+    let i = instanceIn (s .args .limits) (s .args .t .now) in
+    let p = stacksIn (s .args .limits) (s .args .t .now) in
+    (omega arith, counts-later i p refl (omega arith) (omega arith) (s .args .departure) (c .before .is-aboard .ensures) (c .if1 .left) ∙ l .loop .inv .1)
+
+returns-2 : tie.Need-returns-2 Inv-loop μ-loop
+returns-2 c =
+    let s = c .before .before .before .before in
+    let e : c .before .loop .k ≡ s .args .end = omega arith in
+    let i = instanceIn (s .args .limits) (s .args .t .now) in
+    let p = stacksIn (s .args .limits) (s .args .t .now) in
+    counts-none i p (s .args .end) (s .args .departure) ∙ rw e at (c .before .loop .inv .1)
+
+pub departure-counts-spec : {M : Type 1} → statement M
+departure-counts-spec =
+    tie.close
+    (tie.spec
+    Inv-loop
+    μ-loop
+    loop-holds
+    is-aboard-requires
+    returns
+    add-k
+    loop-less
+    loop-again
+    returns-2)

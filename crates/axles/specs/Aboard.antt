@@ -1,0 +1,48 @@
+-- What is on a used truck at a departure, and the two axles.
+use mathlib.Core.Bool.{Bool, _&&_}
+use mathlib.Core.List.{List}
+use Prim.Native.Nat.{ℕ, _+_, _*_, _≤_}
+use lib.IntN.{ℤ, pos, _+ℤ_, _-ℤ_, _*ℤ_}
+use lib.Signed.{leZ, _≤ℤ_}
+use Rattle.meaning.specs.Lists.{filter, between, orderFrom}
+use Rattle.meaning.specs.Model.{Instance, Truck, Stack, truckNumbered, EJeh, EJhr}
+use Rattle.meaning.specs.Measures.{supplierOrder, H}
+use Rattle.meaning.specs.Rules.{middleAxleHolds, rearAxleHolds}
+use Rattle.axles.specs.declared.Axle.{Axle}
+use Rattle.axles.specs.declared.Axle.the-variants.{Middle, Rear}
+
+-- of these stacks, those whose supplier's loading order is from `first` to `last`
+unfoldable pub aboard : Instance → List Stack → ℕ → ℕ → List Stack
+unfolding filter orderFrom
+aboard i on first last = filter (λ (s : Stack). between first last (supplierOrder i s)) on
+
+-- when a rule on an axle is kept
+abbrev pub axleTest : Axle → Instance → Truck → List Stack → Bool
+axleTest Middle i t on = middleAxleHolds i t on
+axleTest Rear i t on = rearAxleHolds i t on
+
+-- "2A", with "A = EJeh + EJhr"
+abbrev pub twiceA : Truck → ℕ
+twiceA t = 2 * (EJeh t + EJhr t)
+
+-- "sm × (2A − x − xe)", of plain numbers
+unfoldable pub leverBy : ℕ → ℕ → ℕ → ℕ → ℤ
+leverBy weight x xe a = pos weight *ℤ (pos a -ℤ pos x -ℤ pos xe)
+
+-- H, by a name that a contract can use
+abbrev pub momentOf : Instance → Truck → List Stack → ℤ
+momentOf i t on = H i t on
+
+-- the middle axle, of plain numbers
+unfoldable pub middleHolds : ℤ → ℕ → ℕ → ℕ → ℕ → ℕ → ℕ → Bool
+middleHolds h ejhr cm cjfc cjfh cjfm emmm =
+    leZ (pos 2 *ℤ pos ejhr *ℤ pos cm *ℤ pos cjfc +ℤ h *ℤ pos cjfh) (pos 2 *ℤ pos ejhr *ℤ pos cjfm *ℤ pos emmm)
+
+-- the rear axle, of plain numbers
+unfoldable pub rearHolds : ℤ → ℕ → ℕ → ℕ → ℕ → Bool
+rearHolds h ejhr weight em emmr = leZ (pos 2 *ℤ pos ejhr *ℤ (pos weight +ℤ pos em) -ℤ h) (pos 2 *ℤ pos ejhr *ℤ pos emmr)
+
+-- H of a truck in range is no further from 0 than this
+pub record Moderate (h : ℤ) : Type 0 where
+  pub atMost : h ≤ℤ pos 300000000000000
+  pub atLeast : (pos 0 -ℤ pos 300000000000000) ≤ℤ h

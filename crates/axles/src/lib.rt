@@ -1,0 +1,332 @@
+// The rules on a used truck: 26 overload, 27 middle axle, 28 rear axle. Each function looks at the stacks of one used truck, which are
+// visited together, from place `start` up to `end`. Levers are signed: a stack whose middle lies behind the rear axle counts negative.
+// Nothing is divided.
+ghost use mathlib.Core.Path.{_≡_};
+ghost use mathlib.Core.Bool.{cond};
+ghost use Prim.Native.Nat.{ℕ, _+_, _*_, _≤_, _<_};
+ghost use lib.IntN.{pos};
+ghost use lib.ListN.{length, getD};
+ghost use Rattle.meaning.specs.Lists.{between, sumℤ};
+ghost use Rattle.meaning.specs.Model.{truckNumbered};
+ghost use Rattle.meaning.specs.Measures.{sm, supplierOrder, weightOn, lever};
+ghost use Rattle.meaning.specs.Rules.{truckPlaces, departurePlaces, counts, withinLoadLimit, middleAxleHolds, rearAxleHolds};
+ghost use Rattle.meaning.specs.Table.{instanceIn, stacksIn};
+ghost use Rattle.table.specs.Filled.{Filled, TruckNumber};
+ghost use Rattle.search.specs.Lowest.{lowestIn};
+ghost use Rattle.visits.specs.Visits.{visitAt, block, Visited, OneTruck};
+ghost use Rattle.axles.specs.Aboard.{aboard, axleTest, twiceA, leverBy, momentOf, middleHolds, rearHolds, Moderate};
+use meaning::Limits;
+use search::Found;
+use search::lower_of;
+use search::place_if;
+use table::fields::CJFC;
+use table::fields::CJFH;
+use table::fields::CJFM;
+use table::fields::CM;
+use table::fields::EJCR;
+use table::fields::EJEH;
+use table::fields::EJHR;
+use table::fields::EM;
+use table::fields::EMMM;
+use table::fields::EMMR;
+use table::fields::LOAD_LIMIT;
+use table::suppliers;
+use table::truck_field;
+use visits::row;
+use visits::row_word;
+use visits::truck_at;
+
+// No truck has more suppliers.
+const MOST_SUPPLIERS: u32 = 8;
+
+// ---- the stacks that are on
+
+// Whether the supplier of a visited stack has a loading order from `first` to `last`.
+fn is_aboard(t: &[u32], limits: Limits, rows: &[u32], k: usize, first: u32, last: u32) -> bool
+    requires { ⌜ Visited limits (now t) (now rows) × (k < length (stacksIn limits (now t))) ⌝ }
+    ensures { λ r. ⌜ r ≡ between first last (supplierOrder (instanceIn limits (now (t .entry))) (visitAt (stacksIn limits (now (t .entry))) k)) ⌝ }
+{
+    let order = row_word(t, limits, rows, k, row::SUPPLIER_ORDER);
+    (first <= order) & (order <= last)
+}
+
+// Whether a departure counts, which it does where a stack is on.
+fn departure_counts(
+    t: &[u32],
+    limits: Limits,
+    rows: &[u32],
+    start: usize,
+    end: usize,
+    departure: u32,
+) -> bool
+    requires { ⌜ Visited limits (now t) (now rows) × (start ≤ end) × (end ≤ length (stacksIn limits (now t))) ⌝ }
+    ensures { λ r. ⌜ r ≡ counts (aboard (instanceIn limits (now (t .entry))) (block (stacksIn limits (now (t .entry))) start end) 1 departure) ⌝ }
+{
+    let mut k = start;
+    while k < end {
+        if is_aboard(t, limits, rows, k, 1, departure) {
+            return true;
+        }
+        k += 1;
+    }
+    false
+}
+
+// What a visited stack adds to the weight of those from supplier `first` to `last`.
+fn weight_part(t: &[u32], limits: Limits, rows: &[u32], k: usize, first: u32, last: u32) -> u64
+    requires { ⌜ Visited limits (now t) (now rows) × (k < length (stacksIn limits (now t))) ⌝ }
+    ensures { λ r. ⌜ (r ≡ cond (between first last (supplierOrder (instanceIn limits (now (t .entry))) (visitAt (stacksIn limits (now (t .entry))) k)))
+        (sm (instanceIn limits (now (t .entry))) (visitAt (stacksIn limits (now (t .entry))) k)) 0) × (r ≤ 3200000) ⌝ }
+{
+    if is_aboard(t, limits, rows, k, first, last) {
+        return row_word(t, limits, rows, k, row::WEIGHT) as u64;
+    }
+    0
+}
+
+// The weight of the stacks from supplier `first` to `last`.
+fn weight_aboard(
+    t: &[u32],
+    limits: Limits,
+    rows: &[u32],
+    start: usize,
+    end: usize,
+    first: u32,
+    last: u32,
+) -> u64
+    requires { ⌜ Visited limits (now t) (now rows) × (start ≤ end) × (end ≤ length (stacksIn limits (now t))) ⌝ }
+    ensures { λ r. ⌜ (r ≡ weightOn (instanceIn limits (now (t .entry))) (aboard (instanceIn limits (now (t .entry))) (block (stacksIn limits (now (t .entry))) start end) first last))
+        × (r ≤ 3276800000) ⌝ }
+{
+    let mut sum: u64 = 0;
+    let mut k = end;
+    while start < k {
+        k -= 1;
+        sum = weight_part(t, limits, rows, k, first, last) + sum;
+    }
+    sum
+}
+
+// ---- levers
+
+// A stack's weight times twice the distance of its middle before the rear axle.
+fn lever_by(weight: u32, x: u32, xe: u32, a: u32) -> i64
+    requires { ⌜ (weight ≤ 3200000) × (x ≤ 20000) × (xe ≤ 40000) × (a ≤ 80000) ⌝ }
+    ensures { λ r. ⌜ r ≡ leverBy weight x xe a ⌝ }
+{
+    (weight as i64) * ((a as i64) - (x as i64) - (xe as i64))
+}
+
+// 2A of a truck: twice the distance from the trailer's front end to the rear axle.
+fn twice_a(t: &[u32], limits: Limits, truck: u32) -> u32
+    requires { ⌜ Filled limits (now t) × TruckNumber (instanceIn limits (now t)) truck ⌝ }
+    ensures { λ r. ⌜ (r ≡ twiceA (truckNumbered (instanceIn limits (now (t .entry))) truck)) × (r ≤ 80000) ⌝ }
+{
+    2 * (truck_field(t, limits, truck, EJEH) + truck_field(t, limits, truck, EJHR))
+}
+
+// What a visited stack adds to the levers at a departure: nothing where it is not on.
+fn lever_part(
+    t: &[u32],
+    limits: Limits,
+    rows: &[u32],
+    k: usize,
+    departure: u32,
+    truck: u32,
+    a: u32,
+) -> i64
+    requires { ⌜ Visited limits (now t) (now rows) × (k < length (stacksIn limits (now t))) × (a ≡ twiceA (truckNumbered (instanceIn limits (now t)) truck)) × (a ≤ 80000) ⌝ }
+    ensures { λ r. ⌜ r ≡ cond (between 1 departure (supplierOrder (instanceIn limits (now (t .entry))) (visitAt (stacksIn limits (now (t .entry))) k)))
+        (lever (instanceIn limits (now (t .entry))) (truckNumbered (instanceIn limits (now (t .entry))) truck) (visitAt (stacksIn limits (now (t .entry))) k)) (pos 0) ⌝ }
+{
+    if is_aboard(t, limits, rows, k, 1, departure) {
+        let weight = row_word(t, limits, rows, k, row::WEIGHT);
+        let x = row_word(t, limits, rows, k, row::X);
+        return lever_by(weight, x, row_word(t, limits, rows, k, row::XE), a);
+    }
+    0
+}
+
+// The levers of the stacks that are on at a departure.
+fn levers_aboard(
+    t: &[u32],
+    limits: Limits,
+    rows: &[u32],
+    start: usize,
+    end: usize,
+    departure: u32,
+    truck: u32,
+) -> i64
+    requires { ⌜ Visited limits (now t) (now rows) × (start ≤ end) × (end ≤ length (stacksIn limits (now t))) × TruckNumber (instanceIn limits (now t)) truck ⌝ }
+    ensures { λ r. ⌜ r ≡ sumℤ (lever (instanceIn limits (now (t .entry))) (truckNumbered (instanceIn limits (now (t .entry))) truck)) (aboard (instanceIn limits (now (t .entry))) (block (stacksIn limits (now (t .entry))) start end) 1 departure) ⌝ }
+{
+    let a = twice_a(t, limits, truck);
+    let mut sum: i64 = 0;
+    let mut k = end;
+    while start < k {
+        k -= 1;
+        sum = lever_part(t, limits, rows, k, departure, truck, a) + sum;
+    }
+    sum
+}
+
+// H: the levers of the stacks that are on, and of the trailer.
+fn moment(
+    t: &[u32],
+    limits: Limits,
+    rows: &[u32],
+    start: usize,
+    end: usize,
+    departure: u32,
+    truck: u32,
+) -> i64
+    requires { ⌜ Visited limits (now t) (now rows) × (start ≤ end) × (end ≤ length (stacksIn limits (now t))) × TruckNumber (instanceIn limits (now t)) truck ⌝ }
+    ensures is { λ r. ⌜ r ≡ momentOf (instanceIn limits (now (t .entry))) (truckNumbered (instanceIn limits (now (t .entry))) truck) (aboard (instanceIn limits (now (t .entry))) (block (stacksIn limits (now (t .entry))) start end) 1 departure) ⌝ }
+    ensures moderate { λ r. ⌜ Moderate r ⌝ }
+{
+    let levers = levers_aboard(t, limits, rows, start, end, departure, truck);
+    let em = truck_field(t, limits, truck, EM);
+    let ejcr = truck_field(t, limits, truck, EJCR);
+    levers + 2 * (em as i64) * (ejcr as i64)
+}
+
+// ---- the axles
+
+// 27 middle axle, of plain numbers.
+fn middle_holds(h: i64, ejhr: u32, cm: u32, cjfc: u32, cjfh: u32, cjfm: u32, emmm: u32) -> bool
+    requires { ⌜ Moderate h × (ejhr ≤ 20000) × (cm ≤ 50000) × (cjfc ≤ 20000) × (cjfh ≤ 20000) × (cjfm ≤ 20000) × (emmm ≤ 50000) ⌝ }
+    ensures { λ r. ⌜ r ≡ middleHolds h ejhr cm cjfc cjfh cjfm emmm ⌝ }
+{
+    let twice = 2 * (ejhr as i64);
+    let held = twice * (cjfm as i64) * (emmm as i64);
+    twice * (cm as i64) * (cjfc as i64) + h * (cjfh as i64) <= held
+}
+
+// 28 rear axle, of plain numbers.
+fn rear_holds(h: i64, ejhr: u32, weight: u64, em: u32, emmr: u32) -> bool
+    requires { ⌜ Moderate h × (ejhr ≤ 20000) × (weight ≤ 3276800000) × (em ≤ 50000) × (emmr ≤ 50000) ⌝ }
+    ensures { λ r. ⌜ r ≡ rearHolds h ejhr weight em emmr ⌝ }
+{
+    let twice = 2 * (ejhr as i64);
+    let held = twice * (emmr as i64);
+    twice * ((weight as i64) + (em as i64)) - h <= held
+}
+
+// 27 middle axle, W2: the tractor and the load, by their levers about the front axle, within the limit.
+fn middle_axle_holds(
+    t: &[u32],
+    limits: Limits,
+    rows: &[u32],
+    start: usize,
+    end: usize,
+    departure: u32,
+    truck: u32,
+) -> bool
+    requires { ⌜ Visited limits (now t) (now rows) × (start ≤ end) × (end ≤ length (stacksIn limits (now t))) × TruckNumber (instanceIn limits (now t)) truck ⌝ }
+    ensures { λ r. ⌜ r ≡ middleAxleHolds (instanceIn limits (now (t .entry))) (truckNumbered (instanceIn limits (now (t .entry))) truck) (aboard (instanceIn limits (now (t .entry))) (block (stacksIn limits (now (t .entry))) start end) 1 departure) ⌝ }
+{
+    let h = moment(t, limits, rows, start, end, departure, truck);
+    let ejhr = truck_field(t, limits, truck, EJHR);
+    let cm = truck_field(t, limits, truck, CM);
+    let cjfc = truck_field(t, limits, truck, CJFC);
+    let cjfh = truck_field(t, limits, truck, CJFH);
+    let cjfm = truck_field(t, limits, truck, CJFM);
+    middle_holds(
+        h,
+        ejhr,
+        cm,
+        cjfc,
+        cjfh,
+        cjfm,
+        truck_field(t, limits, truck, EMMM),
+    )
+}
+
+// 28 rear axle, W2: what the middle axle does not bear of the load, within the limit.
+fn rear_axle_holds(
+    t: &[u32],
+    limits: Limits,
+    rows: &[u32],
+    start: usize,
+    end: usize,
+    departure: u32,
+    truck: u32,
+) -> bool
+    requires { ⌜ Visited limits (now t) (now rows) × (start ≤ end) × (end ≤ length (stacksIn limits (now t))) × TruckNumber (instanceIn limits (now t)) truck ⌝ }
+    ensures { λ r. ⌜ r ≡ rearAxleHolds (instanceIn limits (now (t .entry))) (truckNumbered (instanceIn limits (now (t .entry))) truck) (aboard (instanceIn limits (now (t .entry))) (block (stacksIn limits (now (t .entry))) start end) 1 departure) ⌝ }
+{
+    let h = moment(t, limits, rows, start, end, departure, truck);
+    let weight = weight_aboard(t, limits, rows, start, end, 1, departure);
+    let ejhr = truck_field(t, limits, truck, EJHR);
+    let em = truck_field(t, limits, truck, EM);
+    rear_holds(h, ejhr, weight, em, truck_field(t, limits, truck, EMMR))
+}
+
+pub enum Axle {
+    Middle,
+    Rear,
+}
+
+// Whether an axle holds at a departure.
+fn axle_holds(
+    axle: Axle,
+    t: &[u32],
+    limits: Limits,
+    rows: &[u32],
+    start: usize,
+    end: usize,
+    departure: u32,
+    truck: u32,
+) -> bool
+    requires { ⌜ Visited limits (now t) (now rows) × (start ≤ end) × (end ≤ length (stacksIn limits (now t))) × TruckNumber (instanceIn limits (now t)) truck ⌝ }
+    ensures { λ r. ⌜ r ≡ axleTest axle (instanceIn limits (now (t .entry))) (truckNumbered (instanceIn limits (now (t .entry))) truck) (aboard (instanceIn limits (now (t .entry))) (block (stacksIn limits (now (t .entry))) start end) 1 departure) ⌝ }
+{
+    match axle {
+        Axle::Middle => middle_axle_holds(t, limits, rows, start, end, departure, truck),
+        Axle::Rear => rear_axle_holds(t, limits, rows, start, end, departure, truck),
+    }
+}
+
+// ---- the searches
+
+// The lowest departure at which an axle does not hold, of those that count. Every departure is asked, not the last alone.
+pub fn lowest_departure(
+    axle: Axle,
+    t: &[u32],
+    limits: Limits,
+    rows: &[u32],
+    start: usize,
+    end: usize,
+) -> Found
+    requires { ⌜ Visited limits (now t) (now rows) × OneTruck (stacksIn limits (now t)) start end ⌝ }
+    ensures { λ r. ⌜ r ≡ lowestIn (departurePlaces (axleTest axle) (instanceIn limits (now (t .entry))) (block (stacksIn limits (now (t .entry))) start end)) ⌝ }
+{
+    let truck = truck_at(t, limits, rows, start);
+    let copy = row_word(t, limits, rows, start, row::COPY);
+    let list = suppliers(t, limits, truck);
+    let mut found = Found::Nothing;
+    let mut departure = list.len() as u32;
+    while 0 < departure {
+        let counts = departure_counts(t, limits, rows, start, end, departure);
+        let holds = axle_holds(axle, t, limits, rows, start, end, departure, truck);
+        found = lower_of(place_if(counts & !holds, truck, copy, departure), found);
+        departure -= 1;
+    }
+    found
+}
+
+// 26 overload, W1: the stacks of a used truck weigh no more than its load limit. All its stacks are summed, whatever their supplier.
+pub fn overload_place(t: &[u32], limits: Limits, rows: &[u32], start: usize, end: usize) -> Found
+    requires { ⌜ Visited limits (now t) (now rows) × OneTruck (stacksIn limits (now t)) start end ⌝ }
+    ensures { λ r. ⌜ r ≡ lowestIn (truckPlaces withinLoadLimit (instanceIn limits (now (t .entry))) (block (stacksIn limits (now (t .entry))) start end)) ⌝ }
+{
+    let truck = truck_at(t, limits, rows, start);
+    let weight = weight_aboard(t, limits, rows, start, end, 0, MOST_SUPPLIERS);
+    let within = weight <= (truck_field(t, limits, truck, LOAD_LIMIT) as u64);
+    place_if(
+        !within,
+        truck,
+        row_word(t, limits, rows, start, row::COPY),
+        0,
+    )
+}
