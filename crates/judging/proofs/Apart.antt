@@ -1,0 +1,187 @@
+-- A plan in two parts that share no used truck: the places where a rule on used trucks is broken are those of the one part and those of the
+-- other, and so are the used trucks.
+use mathlib.Core.Path.{_≡_, refl, sym, ap, ap₂, _∙_}
+use mathlib.Core.Logic.{inl, inr}
+use mathlib.Core.Bool.{Bool, true, false, cond, not, _&&_, _||_}
+use mathlib.Core.List.{List, [], _∷_, _++_, map, flatMap, append-nil, append-assoc}
+use Prim.Native.Nat.{ℕ}
+use lib.Dec.{eqb}
+use Rattle.meaning.specs.declared.Place.{Place}
+use Rattle.meaning.specs.Lists.{any, filter, dedup, onlyIf, between, In, Every}
+use Rattle.meaning.specs.Places.{place}
+use Rattle.meaning.specs.Model.{Instance, Truck, Stack, truckNumbered, number, x}
+use Rattle.meaning.specs.Measures.{UsedTruck, usedBy, sameUsed, usedTrucks, stacksOn, another, departures, stacksAt, supplierOrder}
+use Rattle.meaning.specs.Rules.{pairPlaces, stackPlaces, truckPlaces, departurePlaces, counts, braced, braces, noAmount}
+use Rattle.meaning.proofs.Tests.{same-test}
+use Rattle.meaning.proofs.Lists.{flatMap-none, in-map}
+use Rattle.meaning.proofs.RuleKinds.{used-reads}
+use Rattle.meaning.proofs.Levers.{in-used}
+use Rattle.judging.specs.Judging.{truckRulePlaces}
+use Rattle.judging.specs.declared.TruckRule.{TruckRule}
+use Rattle.judging.specs.declared.TruckRule.the-variants.{EachPair, Unbraced, Overload, EachDeparture}
+
+-- ---- lists in two parts
+module _ {A : Type 0} where
+  any-append : (test : A → Bool) (l l′ : List A) → any test (l ++ l′) ≡ (any test l || any test l′)
+  unfolding any
+  any-append test [] l′ = refl
+  any-append test (a ∷ l) l′ = go (test a) (any-append test l l′)
+    where
+      go : (t : Bool) → any test (l ++ l′) ≡ (any test l || any test l′) → (t || any test (l ++ l′)) ≡ ((t || any test l) || any test l′)
+      go true e = refl
+      go false e = e
+
+  any-none : (test : A → Bool) (l : List A) → ((a : A) → In a l → test a ≡ false) → any test l ≡ false
+  unfolding any
+  any-none test [] none = refl
+  any-none test (a ∷ l) none = ap₂ _||_ (none a (inl refl)) (any-none test l (λ b m. none b (inr m)))
+
+  filter-append : (test : A → Bool) (l l′ : List A) → filter test (l ++ l′) ≡ filter test l ++ filter test l′
+  unfolding filter
+  filter-append test [] l′ = refl
+  filter-append test (a ∷ l) l′ = go (test a) (filter-append test l l′)
+    where
+      go : (t : Bool) → filter test (l ++ l′) ≡ filter test l ++ filter test l′
+          → cond t (a ∷ filter test (l ++ l′)) (filter test (l ++ l′)) ≡ cond t (a ∷ filter test l) (filter test l) ++ filter test l′
+      go true e = ap (λ (z : List A). a ∷ z) e
+      go false e = e
+
+  filter-none : (test : A → Bool) (l : List A) → ((a : A) → In a l → test a ≡ false) → filter test l ≡ []
+  unfolding filter
+  filter-none test [] none = refl
+  filter-none test (a ∷ l) none = rw (none a (inl refl)) (filter-none test l (λ b m. none b (inr m)))
+
+  dedup-append : (same : A → A → Bool) (l l′ : List A) → ((a : A) → In a l → any (same a) l′ ≡ false) → dedup same (l ++ l′) ≡ dedup same l ++ dedup same l′
+  unfolding dedup
+  dedup-append same [] l′ none = refl
+  dedup-append same (a ∷ l) l′ none =
+      rw (any-append (same a) l l′, none a (inl refl)) (go (any (same a) l) (dedup-append same l l′ (λ b m. none b (inr m))))
+    where
+      go : (t : Bool) → dedup same (l ++ l′) ≡ dedup same l ++ dedup same l′
+          → cond (t || false) (dedup same (l ++ l′)) (a ∷ dedup same (l ++ l′)) ≡ cond t (dedup same l) (a ∷ dedup same l) ++ dedup same l′
+      go true e = e
+      go false e = ap (λ (z : List A). a ∷ z) e
+
+map-append : {A B : Type 0} (f : A → B) (l l′ : List A) → map f (l ++ l′) ≡ map f l ++ map f l′
+map-append f [] l′ = refl
+map-append {B = B} f (a ∷ l) l′ = ap (λ (z : List B). f a ∷ z) (map-append f l l′)
+
+module _ {A B : Type 0} where
+  pub flatMap-append : (g : A → List B) (l l′ : List A) → flatMap g (l ++ l′) ≡ flatMap g l ++ flatMap g l′
+  unfolding flatMap
+  flatMap-append g [] l′ = refl
+  flatMap-append g (a ∷ l) l′ = ap (λ (z : List B). g a ++ z) (flatMap-append g l l′) ∙ sym (append-assoc (g a) (flatMap g l) (flatMap g l′))
+
+  flatMap-agree : (g h : A → List B) (l : List A) → ((a : A) → In a l → g a ≡ h a) → flatMap g l ≡ flatMap h l
+  unfolding flatMap
+  flatMap-agree g h [] e = refl
+  flatMap-agree g h (a ∷ l) e = ap₂ _++_ (e a (inl refl)) (flatMap-agree g h l (λ b m. e b (inr m)))
+
+  -- where each element has the same in a part as in the whole
+  in-parts : (g h k : A → List B) (l l′ : List A) → ((a : A) → In a l → g a ≡ h a) → ((a : A) → In a l′ → g a ≡ k a)
+      → flatMap g (l ++ l′) ≡ flatMap h l ++ flatMap k l′
+  in-parts g h k l l′ e f = flatMap-append g l l′ ∙ ap₂ _++_ (flatMap-agree g h l e) (flatMap-agree g k l′ f)
+
+or-nothing : (a : Bool) → (a || false) ≡ a
+or-nothing true = refl
+or-nothing false = refl
+
+same-turned : (u v : UsedTruck) → sameUsed u v ≡ sameUsed v u
+same-turned u v = same-test (sameUsed u v) (sameUsed v u) ((λ e. used-reads v u .1 (sym (used-reads u v .0 e))), (λ e. used-reads u v .1 (sym (used-reads v u .0 e))))
+
+-- no used truck has stacks in both lists
+abbrev pub Apart : List Stack → List Stack → Type 0
+Apart l l′ = (s r : Stack) → In s l → In r l′ → sameUsed (usedBy s) (usedBy r) ≡ false
+
+module _ (i : Instance) (l l′ : List Stack) (apart : Apart l l′) where
+  turned : (r s : Stack) → In r l′ → In s l → sameUsed (usedBy r) (usedBy s) ≡ false
+  turned r s n m = same-turned (usedBy r) (usedBy s) ∙ apart s r m n
+
+  -- ---- pairs
+  module _ (kept : Instance → Stack → Stack → Bool) where
+    abbrev pairPlace : Stack → Stack → List Place
+    pairPlace s r = onlyIf (another s r && not (kept i s r)) (place (number s) (number r) 0)
+
+    no-pair : (s r : Stack) → sameUsed (usedBy s) (usedBy r) ≡ false → pairPlace s r ≡ []
+    no-pair s r e = rw e refl
+
+    first-pairs : (s : Stack) → In s l → flatMap (pairPlace s) (l ++ l′) ≡ flatMap (pairPlace s) l
+    first-pairs s m =
+        flatMap-append (pairPlace s) l l′ ∙ rw (flatMap-none (pairPlace s) l′ .1 (λ r n. no-pair s r (apart s r m n))) (append-nil (flatMap (pairPlace s) l))
+
+    second-pairs : (r : Stack) → In r l′ → flatMap (pairPlace r) (l ++ l′) ≡ flatMap (pairPlace r) l′
+    second-pairs r n = flatMap-append (pairPlace r) l l′ ∙ rw (flatMap-none (pairPlace r) l .1 (λ s m. no-pair r s (turned r s n m))) refl
+
+    pairs-apart : pairPlaces kept i (l ++ l′) ≡ pairPlaces kept i l ++ pairPlaces kept i l′
+    unfolding pairPlaces
+    pairs-apart = in-parts _ _ _ l l′ first-pairs second-pairs
+
+  -- ---- 24: who braces a stack is on its used truck
+  abbrev bracedBy : Stack → Stack → Bool
+  bracedBy s r = another s r && braces i s r
+
+  no-brace : (s r : Stack) → sameUsed (usedBy s) (usedBy r) ≡ false → bracedBy s r ≡ false
+  no-brace s r e = rw e refl
+
+  first-braced : (s : Stack) → In s l → braced i (l ++ l′) s ≡ braced i l s
+  first-braced s m =
+      ap (λ b. eqb (x s) 0 || b)
+      (any-append (bracedBy s) l l′ ∙ rw (any-none (bracedBy s) l′ (λ r n. no-brace s r (apart s r m n))) (or-nothing (any (bracedBy s) l)))
+
+  second-braced : (r : Stack) → In r l′ → braced i (l ++ l′) r ≡ braced i l′ r
+  second-braced r n =
+      ap (λ b. eqb (x r) 0 || b) (any-append (bracedBy r) l l′ ∙ rw (any-none (bracedBy r) l (λ s m. no-brace r s (turned r s n m))) refl)
+
+  unbraced-apart : stackPlaces braced noAmount i (l ++ l′) ≡ stackPlaces braced noAmount i l ++ stackPlaces braced noAmount i l′
+  unfolding stackPlaces
+  unbraced-apart =
+      in-parts _ _ _ l l′ (λ s m. ap (λ b. onlyIf (not b) (place (number s) 0 0)) (first-braced s m))
+      (λ r n. ap (λ b. onlyIf (not b) (place (number r) 0 0)) (second-braced r n))
+
+  -- ---- used trucks
+  pub used-apart : usedTrucks (l ++ l′) ≡ usedTrucks l ++ usedTrucks l′
+  unfolding usedTrucks
+  used-apart =
+      ap (dedup sameUsed) (map-append usedBy l l′) ∙ dedup-append sameUsed (map usedBy l) (map usedBy l′) (λ u m.
+      let w = in-map usedBy l u .0 m in
+      any-none (sameUsed u) (map usedBy l′) (λ v n. let z = in-map usedBy l′ v .0 n in rw (w .2, z .2) (apart (w .0) (z .0) (w .1) (z .1))))
+
+  first-on : (u : UsedTruck) → In u (usedTrucks l) → stacksOn (l ++ l′) u ≡ stacksOn l u
+  unfolding stacksOn
+  first-on u m =
+      let w = in-used l u .0 m in
+      let test : Stack → Bool = λ s. sameUsed u (usedBy s) in
+      filter-append test l l′ ∙ rw (filter-none test l′ (λ r n. rw (w .2) (apart (w .0) r (w .1) n))) (append-nil (filter test l))
+
+  second-on : (u : UsedTruck) → In u (usedTrucks l′) → stacksOn (l ++ l′) u ≡ stacksOn l′ u
+  unfolding stacksOn
+  second-on u n =
+      let w = in-used l′ u .0 n in
+      let test : Stack → Bool = λ s. sameUsed u (usedBy s) in
+      filter-append test l l′ ∙ rw (filter-none test l (λ s m. rw (w .2) (turned (w .0) s (w .1) m))) refl
+
+  trucks-apart : (kept : Instance → Truck → List Stack → Bool) → truckPlaces kept i (l ++ l′) ≡ truckPlaces kept i l ++ truckPlaces kept i l′
+  unfolding truckPlaces
+  trucks-apart kept =
+      rw used-apart (in-parts _ _ _ (usedTrucks l) (usedTrucks l′)
+      (λ u m. ap (λ (on : List Stack). onlyIf (not (kept i (truckNumbered i (u .truck)) on)) (place (u .truck) (u .copy) 0)) (first-on u m))
+      (λ u n. ap (λ (on : List Stack). onlyIf (not (kept i (truckNumbered i (u .truck)) on)) (place (u .truck) (u .copy) 0)) (second-on u n)))
+
+  departures-apart : (kept : Instance → Truck → List Stack → Bool) → departurePlaces kept i (l ++ l′) ≡ departurePlaces kept i l ++ departurePlaces kept i l′
+  unfolding departurePlaces stacksAt
+  departures-apart kept =
+      rw used-apart (in-parts _ _ _ (usedTrucks l) (usedTrucks l′) (λ u m. ap (places u) (first-on u m)) (λ u n. ap (places u) (second-on u n)))
+    where
+      places : UsedTruck → List Stack → List Place
+      places u all =
+          flatMap (λ k.
+          let on = filter (λ (s : Stack). between 1 k (supplierOrder i s)) all in
+          onlyIf (counts on && not (kept i (truckNumbered i (u .truck)) on)) (place (u .truck) (u .copy) k))
+          (departures i u)
+
+  -- ---- every rule on used trucks
+  pub rule-apart : (rule : TruckRule) → truckRulePlaces rule i (l ++ l′) ≡ truckRulePlaces rule i l ++ truckRulePlaces rule i l′
+  rule-apart (EachPair rule) = pairs-apart _
+  rule-apart Unbraced = unbraced-apart
+  rule-apart Overload = trucks-apart _
+  rule-apart (EachDeparture axle) = departures-apart _

@@ -1,0 +1,4 @@
+pub mod Apart
+pub mod Trucks
+pub mod Cost
+pub mod Verdicts
