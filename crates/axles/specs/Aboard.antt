@@ -1,11 +1,11 @@
 -- What is on a used truck at a departure, and the two axles.
-use mathlib.Core.Bool.{Bool, _&&_}
+use mathlib.Core.Bool.{Bool}
 use mathlib.Core.List.{List}
-use Prim.Native.Nat.{ℕ, _+_, _*_, _≤_}
+use Prim.Native.Nat.{ℕ, _+_, _*_}
 use lib.IntN.{ℤ, pos, _+ℤ_, _-ℤ_, _*ℤ_}
 use lib.Signed.{leZ, _≤ℤ_}
 use Rattle.meaning.specs.Lists.{filter, between, orderFrom}
-use Rattle.meaning.specs.Model.{Instance, Truck, Stack, truckNumbered, EJeh, EJhr}
+use Rattle.meaning.specs.Model.{Instance, Truck, Stack, EJeh, EJhr}
 use Rattle.meaning.specs.Measures.{supplierOrder, H}
 use Rattle.meaning.specs.Rules.{middleAxleHolds, rearAxleHolds}
 use Rattle.axles.specs.declared.Axle.{Axle}
@@ -16,7 +16,7 @@ unfoldable pub aboard : Instance → List Stack → ℕ → ℕ → List Stack
 unfolding filter orderFrom
 aboard i on first last = filter (λ (s : Stack). between first last (supplierOrder i s)) on
 
--- when a rule on an axle is kept
+-- when a rule on an axle is kept: 27 middle, 28 rear
 abbrev pub axleTest : Axle → Instance → Truck → List Stack → Bool
 axleTest Middle i t on = middleAxleHolds i t on
 axleTest Rear i t on = rearAxleHolds i t on
@@ -25,20 +25,20 @@ axleTest Rear i t on = rearAxleHolds i t on
 abbrev pub twiceA : Truck → ℕ
 twiceA t = 2 * (EJeh t + EJhr t)
 
--- "sm × (2A − x − xe)", of plain numbers
+-- "sm × (2A − x − xe)", where `twice` is 2A
 unfoldable pub leverBy : ℕ → ℕ → ℕ → ℕ → ℤ
-leverBy weight x xe a = pos weight *ℤ (pos a -ℤ pos x -ℤ pos xe)
+leverBy weight x xe twice = pos weight *ℤ (pos twice -ℤ pos x -ℤ pos xe)
 
--- H, by a name that a contract can use
+-- H, by another name: in a contract H is taken for the heap
 abbrev pub momentOf : Instance → Truck → List Stack → ℤ
 momentOf i t on = H i t on
 
--- the middle axle, of plain numbers
+-- "2 × EJhr × CM × CJfc + H × CJfh ≤ 2 × EJhr × CJfm × EMmm"
 unfoldable pub middleHolds : ℤ → ℕ → ℕ → ℕ → ℕ → ℕ → ℕ → Bool
 middleHolds h ejhr cm cjfc cjfh cjfm emmm =
     leZ (pos 2 *ℤ pos ejhr *ℤ pos cm *ℤ pos cjfc +ℤ h *ℤ pos cjfh) (pos 2 *ℤ pos ejhr *ℤ pos cjfm *ℤ pos emmm)
 
--- the rear axle, of plain numbers
+-- "2 × EJhr × (weight on + EM) − H ≤ 2 × EJhr × EMmr"
 unfoldable pub rearHolds : ℤ → ℕ → ℕ → ℕ → ℕ → Bool
 rearHolds h ejhr weight em emmr = leZ (pos 2 *ℤ pos ejhr *ℤ (pos weight +ℤ pos em) -ℤ h) (pos 2 *ℤ pos ejhr *ℤ pos emmr)
 

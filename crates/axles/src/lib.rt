@@ -3,9 +3,9 @@
 // Nothing is divided.
 ghost use mathlib.Core.Path.{_≡_};
 ghost use mathlib.Core.Bool.{cond};
-ghost use Prim.Native.Nat.{ℕ, _+_, _*_, _≤_, _<_};
+ghost use Prim.Native.Nat.{_≤_, _<_};
 ghost use lib.IntN.{pos};
-ghost use lib.ListN.{length, getD};
+ghost use lib.ListN.{length};
 ghost use Rattle.meaning.specs.Lists.{between, sumℤ};
 ghost use Rattle.meaning.specs.Model.{truckNumbered};
 ghost use Rattle.meaning.specs.Measures.{sm, supplierOrder, weightOn, lever};
@@ -13,7 +13,7 @@ ghost use Rattle.meaning.specs.Rules.{truckPlaces, departurePlaces, counts, wit
 ghost use Rattle.meaning.specs.Table.{instanceIn, stacksIn};
 ghost use Rattle.table.specs.Filled.{Filled, TruckNumber};
 ghost use Rattle.search.specs.Lowest.{lowestIn};
-ghost use Rattle.visits.specs.Visits.{visitAt, block, Visited, OneTruck};
+ghost use Rattle.visits.specs.Visits.{visitAt, block, HoldsRows, OneTruck};
 ghost use Rattle.axles.specs.Aboard.{aboard, axleTest, twiceA, leverBy, momentOf, middleHolds, rearHolds, Moderate};
 use meaning::Limits;
 use search::Found;
@@ -43,7 +43,7 @@ const MOST_SUPPLIERS: u32 = 8;
 
 // Whether the supplier of a visited stack has a loading order from `first` to `last`.
 fn is_aboard(t: &[u32], limits: Limits, rows: &[u32], k: usize, first: u32, last: u32) -> bool
-    requires { ⌜ Visited limits (now t) (now rows) × (k < length (stacksIn limits (now t))) ⌝ }
+    requires { ⌜ HoldsRows limits (now t) (now rows) × (k < length (stacksIn limits (now t))) ⌝ }
     ensures { λ r. ⌜ r ≡ between first last (supplierOrder (instanceIn limits (now (t .entry))) (visitAt (stacksIn limits (now (t .entry))) k)) ⌝ }
 {
     let order = row_word(t, limits, rows, k, row::SUPPLIER_ORDER);
@@ -59,7 +59,7 @@ fn departure_counts(
     end: usize,
     departure: u32,
 ) -> bool
-    requires { ⌜ Visited limits (now t) (now rows) × (start ≤ end) × (end ≤ length (stacksIn limits (now t))) ⌝ }
+    requires { ⌜ HoldsRows limits (now t) (now rows) × (start ≤ end) × (end ≤ length (stacksIn limits (now t))) ⌝ }
     ensures { λ r. ⌜ r ≡ counts (aboard (instanceIn limits (now (t .entry))) (block (stacksIn limits (now (t .entry))) start end) 1 departure) ⌝ }
 {
     let mut k = start;
@@ -74,12 +74,14 @@ fn departure_counts(
 
 // What a visited stack adds to the weight of those from supplier `first` to `last`.
 fn weight_part(t: &[u32], limits: Limits, rows: &[u32], k: usize, first: u32, last: u32) -> u64
-    requires { ⌜ Visited limits (now t) (now rows) × (k < length (stacksIn limits (now t))) ⌝ }
-    ensures { λ r. ⌜ (r ≡ cond (between first last (supplierOrder (instanceIn limits (now (t .entry))) (visitAt (stacksIn limits (now (t .entry))) k)))
+    requires { ⌜ HoldsRows limits (now t) (now rows) × (k < length (stacksIn limits (now t))) ⌝ }
+    ensures { λ r. ⌜ (r ≡ cond (between first last (supplierOrder (instanceIn limits (now (t .entry))) (visitAt (stacksIn limits (now
+        (t .entry))) k)))
         (sm (instanceIn limits (now (t .entry))) (visitAt (stacksIn limits (now (t .entry))) k)) 0) × (r ≤ 3200000) ⌝ }
 {
+    let weight = row_word(t, limits, rows, k, row::WEIGHT);
     if is_aboard(t, limits, rows, k, first, last) {
-        return row_word(t, limits, rows, k, row::WEIGHT) as u64;
+        return weight as u64;
     }
     0
 }
@@ -94,8 +96,9 @@ fn weight_aboard(
     first: u32,
     last: u32,
 ) -> u64
-    requires { ⌜ Visited limits (now t) (now rows) × (start ≤ end) × (end ≤ length (stacksIn limits (now t))) ⌝ }
-    ensures { λ r. ⌜ (r ≡ weightOn (instanceIn limits (now (t .entry))) (aboard (instanceIn limits (now (t .entry))) (block (stacksIn limits (now (t .entry))) start end) first last))
+    requires { ⌜ HoldsRows limits (now t) (now rows) × (start ≤ end) × (end ≤ length (stacksIn limits (now t))) ⌝ }
+    ensures { λ r. ⌜ (r ≡ weightOn (instanceIn limits (now (t .entry))) (aboard (instanceIn limits (now (t .entry))) (block (stacksIn limits
+        (now (t .entry))) start end) first last))
         × (r ≤ 3276800000) ⌝ }
 {
     let mut sum: u64 = 0;
@@ -109,12 +112,12 @@ fn weight_aboard(
 
 // ---- levers
 
-// A stack's weight times twice the distance of its middle before the rear axle.
-fn lever_by(weight: u32, x: u32, xe: u32, a: u32) -> i64
-    requires { ⌜ (weight ≤ 3200000) × (x ≤ 20000) × (xe ≤ 40000) × (a ≤ 80000) ⌝ }
-    ensures { λ r. ⌜ r ≡ leverBy weight x xe a ⌝ }
+// A stack's weight times twice the distance of its middle before the rear axle; `twice` is 2A.
+fn lever_by(weight: u32, x: u32, xe: u32, twice: u32) -> i64
+    requires { ⌜ (weight ≤ 3200000) × (x ≤ 20000) × (xe ≤ 40000) × (twice ≤ 80000) ⌝ }
+    ensures { λ r. ⌜ r ≡ leverBy weight x xe twice ⌝ }
 {
-    (weight as i64) * ((a as i64) - (x as i64) - (xe as i64))
+    (weight as i64) * ((twice as i64) - (x as i64) - (xe as i64))
 }
 
 // 2A of a truck: twice the distance from the trailer's front end to the rear axle.
@@ -133,16 +136,19 @@ fn lever_part(
     k: usize,
     departure: u32,
     truck: u32,
-    a: u32,
+    twice: u32,
 ) -> i64
-    requires { ⌜ Visited limits (now t) (now rows) × (k < length (stacksIn limits (now t))) × (a ≡ twiceA (truckNumbered (instanceIn limits (now t)) truck)) × (a ≤ 80000) ⌝ }
-    ensures { λ r. ⌜ r ≡ cond (between 1 departure (supplierOrder (instanceIn limits (now (t .entry))) (visitAt (stacksIn limits (now (t .entry))) k)))
+    requires { ⌜ HoldsRows limits (now t) (now rows) × (k < length (stacksIn limits (now t)))
+        × (twice ≡ twiceA (truckNumbered (instanceIn limits (now t)) truck)) × (twice ≤ 80000) ⌝ }
+    ensures { λ r. ⌜ r ≡ cond (between 1 departure (supplierOrder (instanceIn limits (now (t .entry))) (visitAt (stacksIn limits (now
+        (t .entry))) k)))
         (lever (instanceIn limits (now (t .entry))) (truckNumbered (instanceIn limits (now (t .entry))) truck) (visitAt (stacksIn limits (now (t .entry))) k)) (pos 0) ⌝ }
 {
+    let weight = row_word(t, limits, rows, k, row::WEIGHT);
+    let x = row_word(t, limits, rows, k, row::X);
+    let lever = lever_by(weight, x, row_word(t, limits, rows, k, row::XE), twice);
     if is_aboard(t, limits, rows, k, 1, departure) {
-        let weight = row_word(t, limits, rows, k, row::WEIGHT);
-        let x = row_word(t, limits, rows, k, row::X);
-        return lever_by(weight, x, row_word(t, limits, rows, k, row::XE), a);
+        return lever;
     }
     0
 }
@@ -157,15 +163,17 @@ fn levers_aboard(
     departure: u32,
     truck: u32,
 ) -> i64
-    requires { ⌜ Visited limits (now t) (now rows) × (start ≤ end) × (end ≤ length (stacksIn limits (now t))) × TruckNumber (instanceIn limits (now t)) truck ⌝ }
-    ensures { λ r. ⌜ r ≡ sumℤ (lever (instanceIn limits (now (t .entry))) (truckNumbered (instanceIn limits (now (t .entry))) truck)) (aboard (instanceIn limits (now (t .entry))) (block (stacksIn limits (now (t .entry))) start end) 1 departure) ⌝ }
+    requires { ⌜ HoldsRows limits (now t) (now rows) × (start ≤ end) × (end ≤ length (stacksIn limits (now t)))
+        × TruckNumber (instanceIn limits (now t)) truck ⌝ }
+    ensures { λ r. ⌜ r ≡ sumℤ (lever (instanceIn limits (now (t .entry))) (truckNumbered (instanceIn limits (now (t .entry))) truck))
+        (aboard (instanceIn limits (now (t .entry))) (block (stacksIn limits (now (t .entry))) start end) 1 departure) ⌝ }
 {
-    let a = twice_a(t, limits, truck);
+    let twice = twice_a(t, limits, truck);
     let mut sum: i64 = 0;
     let mut k = end;
     while start < k {
         k -= 1;
-        sum = lever_part(t, limits, rows, k, departure, truck, a) + sum;
+        sum = lever_part(t, limits, rows, k, departure, truck, twice) + sum;
     }
     sum
 }
@@ -180,8 +188,10 @@ fn moment(
     departure: u32,
     truck: u32,
 ) -> i64
-    requires { ⌜ Visited limits (now t) (now rows) × (start ≤ end) × (end ≤ length (stacksIn limits (now t))) × TruckNumber (instanceIn limits (now t)) truck ⌝ }
-    ensures is { λ r. ⌜ r ≡ momentOf (instanceIn limits (now (t .entry))) (truckNumbered (instanceIn limits (now (t .entry))) truck) (aboard (instanceIn limits (now (t .entry))) (block (stacksIn limits (now (t .entry))) start end) 1 departure) ⌝ }
+    requires { ⌜ HoldsRows limits (now t) (now rows) × (start ≤ end) × (end ≤ length (stacksIn limits (now t)))
+        × TruckNumber (instanceIn limits (now t)) truck ⌝ }
+    ensures is { λ r. ⌜ r ≡ momentOf (instanceIn limits (now (t .entry))) (truckNumbered (instanceIn limits (now (t .entry))) truck) (aboard
+        (instanceIn limits (now (t .entry))) (block (stacksIn limits (now (t .entry))) start end) 1 departure) ⌝ }
     ensures moderate { λ r. ⌜ Moderate r ⌝ }
 {
     let levers = levers_aboard(t, limits, rows, start, end, departure, truck);
@@ -198,8 +208,8 @@ fn middle_holds(h: i64, ejhr: u32, cm: u32, cjfc: u32, cjfh: u32, cjfm: u32, emm
     ensures { λ r. ⌜ r ≡ middleHolds h ejhr cm cjfc cjfh cjfm emmm ⌝ }
 {
     let twice = 2 * (ejhr as i64);
-    let held = twice * (cjfm as i64) * (emmm as i64);
-    twice * (cm as i64) * (cjfc as i64) + h * (cjfh as i64) <= held
+    let most = twice * (cjfm as i64) * (emmm as i64);
+    twice * (cm as i64) * (cjfc as i64) + h * (cjfh as i64) <= most
 }
 
 // 28 rear axle, of plain numbers.
@@ -208,11 +218,11 @@ fn rear_holds(h: i64, ejhr: u32, weight: u64, em: u32, emmr: u32) -> bool
     ensures { λ r. ⌜ r ≡ rearHolds h ejhr weight em emmr ⌝ }
 {
     let twice = 2 * (ejhr as i64);
-    let held = twice * (emmr as i64);
-    twice * ((weight as i64) + (em as i64)) - h <= held
+    let most = twice * (emmr as i64);
+    twice * ((weight as i64) + (em as i64)) - h <= most
 }
 
-// 27 middle axle, W2: the tractor and the load, by their levers about the front axle, within the limit.
+// 27 middle axle, W2: what tractor, trailer and load bring to it, by their levers, is within its limit.
 fn middle_axle_holds(
     t: &[u32],
     limits: Limits,
@@ -222,8 +232,10 @@ fn middle_axle_holds(
     departure: u32,
     truck: u32,
 ) -> bool
-    requires { ⌜ Visited limits (now t) (now rows) × (start ≤ end) × (end ≤ length (stacksIn limits (now t))) × TruckNumber (instanceIn limits (now t)) truck ⌝ }
-    ensures { λ r. ⌜ r ≡ middleAxleHolds (instanceIn limits (now (t .entry))) (truckNumbered (instanceIn limits (now (t .entry))) truck) (aboard (instanceIn limits (now (t .entry))) (block (stacksIn limits (now (t .entry))) start end) 1 departure) ⌝ }
+    requires { ⌜ HoldsRows limits (now t) (now rows) × (start ≤ end) × (end ≤ length (stacksIn limits (now t)))
+        × TruckNumber (instanceIn limits (now t)) truck ⌝ }
+    ensures { λ r. ⌜ r ≡ middleAxleHolds (instanceIn limits (now (t .entry))) (truckNumbered (instanceIn limits (now (t .entry))) truck)
+        (aboard (instanceIn limits (now (t .entry))) (block (stacksIn limits (now (t .entry))) start end) 1 departure) ⌝ }
 {
     let h = moment(t, limits, rows, start, end, departure, truck);
     let ejhr = truck_field(t, limits, truck, EJHR);
@@ -242,7 +254,7 @@ fn middle_axle_holds(
     )
 }
 
-// 28 rear axle, W2: what the middle axle does not bear of the load, within the limit.
+// 28 rear axle, W2: what the harness does not bear of trailer and load is within its limit.
 fn rear_axle_holds(
     t: &[u32],
     limits: Limits,
@@ -252,8 +264,10 @@ fn rear_axle_holds(
     departure: u32,
     truck: u32,
 ) -> bool
-    requires { ⌜ Visited limits (now t) (now rows) × (start ≤ end) × (end ≤ length (stacksIn limits (now t))) × TruckNumber (instanceIn limits (now t)) truck ⌝ }
-    ensures { λ r. ⌜ r ≡ rearAxleHolds (instanceIn limits (now (t .entry))) (truckNumbered (instanceIn limits (now (t .entry))) truck) (aboard (instanceIn limits (now (t .entry))) (block (stacksIn limits (now (t .entry))) start end) 1 departure) ⌝ }
+    requires { ⌜ HoldsRows limits (now t) (now rows) × (start ≤ end) × (end ≤ length (stacksIn limits (now t)))
+        × TruckNumber (instanceIn limits (now t)) truck ⌝ }
+    ensures { λ r. ⌜ r ≡ rearAxleHolds (instanceIn limits (now (t .entry))) (truckNumbered (instanceIn limits (now (t .entry))) truck)
+        (aboard (instanceIn limits (now (t .entry))) (block (stacksIn limits (now (t .entry))) start end) 1 departure) ⌝ }
 {
     let h = moment(t, limits, rows, start, end, departure, truck);
     let weight = weight_aboard(t, limits, rows, start, end, 1, departure);
@@ -263,8 +277,8 @@ fn rear_axle_holds(
 }
 
 pub enum Axle {
-    Middle,
-    Rear,
+    Middle, // 27
+    Rear, // 28
 }
 
 // Whether an axle holds at a departure.
@@ -278,8 +292,10 @@ fn axle_holds(
     departure: u32,
     truck: u32,
 ) -> bool
-    requires { ⌜ Visited limits (now t) (now rows) × (start ≤ end) × (end ≤ length (stacksIn limits (now t))) × TruckNumber (instanceIn limits (now t)) truck ⌝ }
-    ensures { λ r. ⌜ r ≡ axleTest axle (instanceIn limits (now (t .entry))) (truckNumbered (instanceIn limits (now (t .entry))) truck) (aboard (instanceIn limits (now (t .entry))) (block (stacksIn limits (now (t .entry))) start end) 1 departure) ⌝ }
+    requires { ⌜ HoldsRows limits (now t) (now rows) × (start ≤ end) × (end ≤ length (stacksIn limits (now t)))
+        × TruckNumber (instanceIn limits (now t)) truck ⌝ }
+    ensures { λ r. ⌜ r ≡ axleTest axle (instanceIn limits (now (t .entry))) (truckNumbered (instanceIn limits (now (t .entry))) truck)
+        (aboard (instanceIn limits (now (t .entry))) (block (stacksIn limits (now (t .entry))) start end) 1 departure) ⌝ }
 {
     match axle {
         Axle::Middle => middle_axle_holds(t, limits, rows, start, end, departure, truck),
@@ -298,8 +314,9 @@ pub fn lowest_departure(
     start: usize,
     end: usize,
 ) -> Found
-    requires { ⌜ Visited limits (now t) (now rows) × OneTruck (stacksIn limits (now t)) start end ⌝ }
-    ensures { λ r. ⌜ r ≡ lowestIn (departurePlaces (axleTest axle) (instanceIn limits (now (t .entry))) (block (stacksIn limits (now (t .entry))) start end)) ⌝ }
+    requires { ⌜ HoldsRows limits (now t) (now rows) × OneTruck (stacksIn limits (now t)) start end ⌝ }
+    ensures { λ r. ⌜ r ≡ lowestIn (departurePlaces (axleTest axle) (instanceIn limits (now (t .entry))) (block (stacksIn limits (now
+        (t .entry))) start end)) ⌝ }
 {
     let truck = truck_at(t, limits, rows, start);
     let copy = row_word(t, limits, rows, start, row::COPY);
@@ -317,8 +334,9 @@ pub fn lowest_departure(
 
 // 26 overload, W1: the stacks of a used truck weigh no more than its load limit. All its stacks are summed, whatever their supplier.
 pub fn overload_place(t: &[u32], limits: Limits, rows: &[u32], start: usize, end: usize) -> Found
-    requires { ⌜ Visited limits (now t) (now rows) × OneTruck (stacksIn limits (now t)) start end ⌝ }
-    ensures { λ r. ⌜ r ≡ lowestIn (truckPlaces withinLoadLimit (instanceIn limits (now (t .entry))) (block (stacksIn limits (now (t .entry))) start end)) ⌝ }
+    requires { ⌜ HoldsRows limits (now t) (now rows) × OneTruck (stacksIn limits (now t)) start end ⌝ }
+    ensures { λ r. ⌜ r ≡ lowestIn (truckPlaces withinLoadLimit (instanceIn limits (now (t .entry))) (block (stacksIn limits (now
+        (t .entry))) start end)) ⌝ }
 {
     let truck = truck_at(t, limits, rows, start);
     let weight = weight_aboard(t, limits, rows, start, end, 0, MOST_SUPPLIERS);

@@ -64,33 +64,33 @@ upFrom-at a (suc n) (suc k) h = upFrom-at (suc a) n k (omega arith) ∙ (let e :
 noRule : meant.Rule
 noRule = record { verdict = 0; places = λ i p. [] }
 
-abbrev rowOf : ℕ → meant.Rule
-rowOf verdict = getD rules (verdict - 9) noRule
+abbrev tableRow : ℕ → meant.Rule
+tableRow verdict = getD rules (verdict - 9) noRule
 
 module _ (v : ℕ) (from : 10 ≤ v) (upto : v ≤ 28) where
   -- the same row, from 10 on
-  later-row : rowOf v ≡ getD (drop 1 rules) (v - 10) noRule
+  later-row : tableRow v ≡ getD (drop 1 rules) (v - 10) noRule
   later-row = let e : 1 + (v - 10) ≡ v - 9 = omega arith in sym (getD-drop 1 rules (v - 10) noRule ∙ ap (λ k. getD rules k noRule) e)
 
   later-within : v - 10 < length (drop 1 rules)
   later-within = omega (arith, length-drop 1 rules, rules-length)
 
-  row-verdict : rowOf v .verdict ≡ v
+  row-verdict : tableRow v .verdict ≡ v
   row-verdict =
       let e : 10 + (v - 10) ≡ v = omega arith in
       ap (λ (r : meant.Rule). r .verdict) later-row ∙ sym (map-at (λ (r : meant.Rule). r .verdict) (drop 1 rules) (v - 10) noRule 0 later-within)
       ∙ ap (λ (l : List ℕ). getD l (v - 10) 0) verdicts-named ∙ upFrom-at 10 19 (v - 10) (omega arith) ∙ e
 
-  row-places : rowOf v .places ≡ rulePlaces (ruleOf v)
+  row-places : tableRow v .places ≡ rulePlaces (ruleOf v)
   row-places =
       let none : Instance → List Stack → List Place = λ i p. [] in
       ap (λ (r : meant.Rule). r .places) later-row ∙ sym (map-at (λ (r : meant.Rule). r .places) (drop 1 rules) (v - 10) noRule none later-within)
       ∙ ap (λ (l : List (Instance → List Stack → List Place)). getD l (v - 10) none) places-named ∙ map-at rulePlaces laterRules (v - 10) _ none (omega arith)
 
-  rules-from : drop (v - 9) rules ≡ rowOf v ∷ drop (v + 1 - 9) rules
+  rules-from : drop (v - 9) rules ≡ tableRow v ∷ drop (v + 1 - 9) rules
   rules-from =
       let e : suc (v - 9) ≡ v + 1 - 9 = omega arith in
-      drop-cons rules (v - 9) noRule (omega (arith, rules-length)) ∙ ap (λ k. rowOf v ∷ drop k rules) e
+      drop-cons rules (v - 9) noRule (omega (arith, rules-length)) ∙ ap (λ k. tableRow v ∷ drop k rules) e
 
 -- ---- the loop over the verdicts from 10 on
 -- the rules before `verdict` are kept
@@ -104,19 +104,19 @@ module _ {i : Instance} {p : List Stack} {kept : Answer} where
   asked-start = record { from = omega arith; upto = omega arith; is = refl }
 
   module _ {v : ℕ} (h : Asked i p kept v) (more : v ≤ 28) {rule : Rule} {found : Found} (named : rule ≡ ruleOf v) (e : found ≡ lowestIn (rulePlaces rule i p)) where
-    asked : found ≡ lowestIn (rowOf v .places i p)
+    asked : found ≡ lowestIn (tableRow v .places i p)
     asked = e ∙ rw (named, row-places v (h .from) more) refl
 
     pub asked-broken : (q : Place) → found ≡ At q → refusal v q ≡ firstBroken (drop 1 rules) i p kept
     asked-broken q f =
-        ap (λ n. refusal n q) (sym (row-verdict v (h .from) more)) ∙ rule-broken (rowOf v) (drop (v + 1 - 9) rules) i p kept q (sym f ∙ asked)
+        ap (λ n. refusal n q) (sym (row-verdict v (h .from) more)) ∙ rule-broken (tableRow v) (drop (v + 1 - 9) rules) i p kept q (sym f ∙ asked)
         ∙ rw (← rules-from v (h .from) more) (h .is)
 
     pub asked-kept : found ≡ Nothing → Asked i p kept (v + 1)
     asked-kept f = record {
       from = omega (arith, h .from);
       upto = omega arith;
-      is = sym (rule-kept (rowOf v) (drop (v + 1 - 9) rules) i p kept (sym f ∙ asked)) ∙ rw (← rules-from v (h .from) more) (h .is);
+      is = sym (rule-kept (tableRow v) (drop (v + 1 - 9) rules) i p kept (sym f ∙ asked)) ∙ rw (← rules-from v (h .from) more) (h .is);
     }
 
   pub asked-all : {v : ℕ} → Asked i p kept v → 28 < v → kept ≡ firstBroken (drop 1 rules) i p kept

@@ -18,7 +18,7 @@ use Rattle.judging.specs.declared.TruckRule.the-variants.{EachPair, Unbr
 use Rattle.judging.specs.declared.Rule.{Rule}
 use Rattle.judging.specs.declared.Rule.the-variants.{OfStacks, OfTrucks}
 
--- where a rule on used trucks is broken
+-- where a rule on used trucks is broken: 17, 23 and 25 on pairs, 24 unbraced, 26 overload, 27 and 28 at departures
 abbrev pub truckRulePlaces : TruckRule → Instance → List Stack → List Place
 truckRulePlaces (EachPair rule) i p = pairPlaces (pairTest rule) i p
 truckRulePlaces Unbraced i p = stackPlaces braced noAmount i p
@@ -38,7 +38,7 @@ laterRules =
     ∷ OfStacks Dense ∷ OfStacks Outside ∷ OfTrucks (EachPair Overlap) ∷ OfTrucks Unbraced ∷ OfTrucks (EachPair Order) ∷ OfTrucks Overload
     ∷ OfTrucks (EachDeparture Middle) ∷ OfTrucks (EachDeparture Rear) ∷ []
 
--- the rule of a verdict from 10 to 28
+-- the rule of a verdict from 10 to 28; another number has none, and the last one stands in
 abbrev pub ruleOf : ℕ → Rule
 ruleOf verdict = getD laterRules (verdict - 10) (OfTrucks (EachDeparture Rear))
 

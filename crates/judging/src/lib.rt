@@ -1,7 +1,7 @@
 // The verdict on a plan that was read: the first broken rule of 9 to 28 with its lowest place, or the cost and the number of used trucks.
 ghost use mathlib.Core.Path.{_≡_};
-ghost use Prim.Native.Nat.{ℕ, _+_, _-_, _*_, _≤_, _<_};
-ghost use lib.ListN.{length, getD, drop};
+ghost use Prim.Native.Nat.{_-_, _*_, _≤_, _<_};
+ghost use lib.ListN.{length, drop};
 ghost use Rattle.meaning.specs.Lists.{sum};
 ghost use Rattle.meaning.specs.Measures.{usedTrucks};
 ghost use Rattle.meaning.specs.Rules.{rules};
@@ -9,7 +9,7 @@ ghost use Rattle.meaning.specs.Table.{instanceIn, stacksIn};
 ghost use Rattle.meaning.specs.Verdict.{refusal, acceptance, firstBroken, cost, transportCost, inventoryCost, verdictOn};
 ghost use Rattle.table.specs.Filled.{Filled, stackAt, TruckNumber};
 ghost use Rattle.search.specs.Lowest.{lowestIn};
-ghost use Rattle.visits.specs.Visits.{block, Visited, OneTruck};
+ghost use Rattle.visits.specs.Visits.{block, HoldsRows, OneTruck};
 ghost use Rattle.judging.specs.Judging.{truckRulePlaces, rulePlaces, ruleOf, usedTruck};
 use axles::Axle;
 use axles::lowest_departure;
@@ -38,7 +38,7 @@ use table::load_entry;
 use table::stack_count;
 use table::transport_coefficient;
 use table::truck_field;
-use views::carrier_field;
+use views::stack_truck_field;
 use visits::row;
 use visits::row_word;
 use visits::truck_at;
@@ -47,10 +47,11 @@ use visits::visit_stacks;
 
 // ---- the rules on each used truck: 17 and 23 to 28
 
-pub enum TruckRule {
+// The rules on a used truck.
+enum TruckRule {
     EachPair(PairRule),
-    Unbraced,
-    Overload,
+    Unbraced, // 24
+    Overload, // 26
     EachDeparture(Axle),
 }
 
@@ -63,7 +64,7 @@ fn truck_place(
     start: usize,
     end: usize,
 ) -> Found
-    requires { ⌜ Visited limits (now t) (now rows) × OneTruck (stacksIn limits (now t)) start end ⌝ }
+    requires { ⌜ HoldsRows limits (now t) (now rows) × OneTruck (stacksIn limits (now t)) start end ⌝ }
     ensures { λ r. ⌜ r ≡ lowestIn (truckRulePlaces rule (instanceIn limits (now (t .entry))) (block (stacksIn limits (now (t .entry))) start end)) ⌝ }
 {
     match rule {
@@ -76,7 +77,7 @@ fn truck_place(
 
 // The lowest place where a rule on used trucks is broken.
 fn lowest_truck(rule: TruckRule, t: &[u32], limits: Limits, rows: &[u32]) -> Found
-    requires { ⌜ Visited limits (now t) (now rows) ⌝ }
+    requires { ⌜ HoldsRows limits (now t) (now rows) ⌝ }
     ensures { λ r. ⌜ r ≡ lowestIn (truckRulePlaces rule (instanceIn limits (now (t .entry))) (stacksIn limits (now (t .entry)))) ⌝ }
 {
     let mut found = Found::Nothing;
@@ -107,7 +108,7 @@ fn stack_inventory(t: &[u32], limits: Limits, s: usize) -> u64
     ensures { λ r. ⌜ (r ≡ inventoryCost (instanceIn limits (now (t .entry))) (stackAt (stacksIn limits (now (t .entry))) s))
         × (r ≤ 39900000 * length (stackAt (stacksIn limits (now (t .entry))) s .load)) ⌝ }
 {
-    let arrival = carrier_field(t, limits, s, TDA);
+    let arrival = stack_truck_field(t, limits, s, TDA);
     let mut sum: u64 = 0;
     let mut j = load_count(t, limits, s);
     while 0 < j {
@@ -146,15 +147,16 @@ fn truck_cost(t: &[u32], limits: Limits, truck: u32, copy: u32) -> u64
 }
 
 // How many trucks are used, and what they cost together in thousandths.
-pub struct UsedTrucks {
-    pub count: u32,
-    pub cost: u64,
+struct UsedTrucks {
+    count: u32,
+    cost: u64,
 }
 
 // The used trucks of a plan, each once.
 fn sum_trucks(t: &[u32], limits: Limits, rows: &[u32]) -> UsedTrucks
-    requires { ⌜ Visited limits (now t) (now rows) ⌝ }
-    ensures { λ r. ⌜ (r .count ≡ length (usedTrucks (stacksIn limits (now (t .entry))))) × (r .cost ≡ sum (transportCost (instanceIn limits (now (t .entry)))) (usedTrucks (stacksIn limits (now (t .entry)))))
+    requires { ⌜ HoldsRows limits (now t) (now rows) ⌝ }
+    ensures { λ r. ⌜ (r .count ≡ length (usedTrucks (stacksIn limits (now (t .entry)))))
+        × (r .cost ≡ sum (transportCost (instanceIn limits (now (t .entry)))) (usedTrucks (stacksIn limits (now (t .entry)))))
         × (r .cost ≤ 4194304000000000) ⌝ }
 {
     let mut count: u32 = 0;
@@ -181,8 +183,9 @@ fn sum_trucks(t: &[u32], limits: Limits, rows: &[u32]) -> UsedTrucks
 
 // The answer on a plan that keeps every rule.
 fn accept(t: &[u32], limits: Limits, rows: &[u32]) -> Answer
-    requires { ⌜ Visited limits (now t) (now rows) ⌝ }
-    ensures { λ r. ⌜ r ≡ acceptance (cost (instanceIn limits (now (t .entry))) (stacksIn limits (now (t .entry)))) (length (usedTrucks (stacksIn limits (now (t .entry))))) ⌝ }
+    requires { ⌜ HoldsRows limits (now t) (now rows) ⌝ }
+    ensures { λ r. ⌜ r ≡ acceptance (cost (instanceIn limits (now (t .entry))) (stacksIn limits (now (t .entry)))) (length (usedTrucks
+        (stacksIn limits (now (t .entry))))) ⌝ }
 {
     let used = sum_trucks(t, limits, rows);
     let inventory = inventory_sum(t, limits);
@@ -201,7 +204,7 @@ fn accept(t: &[u32], limits: Limits, rows: &[u32]) -> Answer
 // ---- the verdict
 
 // A rule of 10 to 28.
-pub enum Rule {
+enum Rule {
     OfStacks(StackRule),
     OfTrucks(TruckRule),
 }
@@ -236,7 +239,7 @@ fn rule_of(verdict: u32) -> Rule
 
 // The lowest place where a rule is broken.
 fn lowest_place(rule: Rule, t: &[u32], limits: Limits, rows: &[u32]) -> Found
-    requires { ⌜ Visited limits (now t) (now rows) ⌝ }
+    requires { ⌜ HoldsRows limits (now t) (now rows) ⌝ }
     ensures { λ r. ⌜ r ≡ lowestIn (rulePlaces rule (instanceIn limits (now (t .entry))) (stacksIn limits (now (t .entry)))) ⌝ }
 {
     match rule {
@@ -261,7 +264,7 @@ fn refuse(verdict: u32, place: Place) -> Answer
 
 // The verdict by rules 10 to 28, each over the whole plan before the next.
 fn judge_visited(t: &[u32], limits: Limits, rows: &[u32]) -> Answer
-    requires { ⌜ Visited limits (now t) (now rows) ⌝ }
+    requires { ⌜ HoldsRows limits (now t) (now rows) ⌝ }
     ensures { λ r. ⌜ r ≡ firstBroken (drop 1 rules) (instanceIn limits (now (t .entry))) (stacksIn limits (now (t .entry)))
         (acceptance (cost (instanceIn limits (now (t .entry))) (stacksIn limits (now (t .entry)))) (length (usedTrucks (stacksIn limits (now (t .entry)))))) ⌝ }
 {
@@ -287,7 +290,8 @@ pub fn judge(
     order: &mut [u32],
     rows: &mut [u32],
 ) -> Answer
-    requires { ⌜ Filled limits (now t) × (length (instanceIn limits (now t) .items) ≤ length (now times)) × (length (stacksIn limits (now t)) ≤ length (now keys))
+    requires { ⌜ Filled limits (now t) × (length (instanceIn limits (now t) .items) ≤ length (now times))
+        × (length (stacksIn limits (now t)) ≤ length (now keys))
         × (length (stacksIn limits (now t)) ≤ length (now order)) × (16 * length (stacksIn limits (now t)) ≤ length (now rows)) ⌝ }
     ensures { λ r. ⌜ r ≡ verdictOn (instanceIn limits (now (t .entry))) (stacksIn limits (now (t .entry))) ⌝ }
 {

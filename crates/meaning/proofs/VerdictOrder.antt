@@ -88,7 +88,7 @@ module _ (i : Instance) (p p′ : List Stack) (h : List·Permᴰ p p′) where
   cost-perm = rw (sum-perm (transportCost i) usedTrucks-perm, sum-perm (inventoryCost i) h)
 
   -- ---- the places of each kind of rule
-  pub itemPlaces-same : (kept : Instance → Stack → Item → Bool) → Same (itemPlaces kept i p) (itemPlaces kept i p′)
+  itemPlaces-same : (kept : Instance → Stack → Item → Bool) → Same (itemPlaces kept i p) (itemPlaces kept i p′)
   unfolding itemPlaces
   itemPlaces-same kept = flatMap-equal _ _ p p′ (perm-same h) (λ s. refl)
 

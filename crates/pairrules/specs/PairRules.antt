@@ -2,16 +2,14 @@
 use mathlib.Core.Bool.{Bool, not, _&&_, _||_}
 use Prim.Native.Nat.{ℕ, _+_}
 use lib.Dec.{leb, ltb, eqb}
-use Rattle.meaning.specs.Lists.{orderFrom}
 use Rattle.meaning.specs.Model.{Instance, Stack}
-use Rattle.meaning.specs.Measures.{plantDocksOf}
-use Rattle.meaning.specs.Rules.{singlePair, disjoint, loadsBefore, inLoadingOrder}
+use Rattle.meaning.specs.Rules.{singlePair, disjoint, inLoadingOrder}
 use Rattle.views.specs.declared.Footprint.{Footprint}
 use Rattle.views.specs.declared.Rank.{Rank}
 use Rattle.pairrules.specs.declared.PairRule.{PairRule}
 use Rattle.pairrules.specs.declared.PairRule.the-variants.{SecondPair, Overlap, Order}
 
--- when a rule on two stacks is kept
+-- when a rule on two stacks is kept: 17 second pair, 23 overlap, 25 order
 abbrev pub pairTest : PairRule → Instance → Stack → Stack → Bool
 pairTest SecondPair i s r = singlePair i s r
 pairTest Overlap i s r = disjoint i s r

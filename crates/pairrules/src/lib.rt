@@ -1,12 +1,12 @@
 // The rules on two stacks of one used truck: 17 second pair, 23 overlap, 24 unbraced, 25 order. Each function looks at the stacks of one
 // used truck, which are visited together, from place `start` up to `end`.
 ghost use mathlib.Core.Path.{_≡_};
-ghost use Prim.Native.Nat.{ℕ, _+_, _*_, _≤_, _<_};
-ghost use lib.ListN.{length, getD};
+ghost use Prim.Native.Nat.{_≤_, _<_};
+ghost use lib.ListN.{length};
 ghost use Rattle.meaning.specs.Table.{instanceIn, stacksIn};
 ghost use Rattle.meaning.specs.Rules.{pairPlaces, stackPlaces, singlePair, inLoadingOrder, braced, noAmount};
 ghost use Rattle.search.specs.Lowest.{lowestIn};
-ghost use Rattle.visits.specs.Visits.{visitAt, block, Visited, OneTruck};
+ghost use Rattle.visits.specs.Visits.{visitAt, block, HoldsRows, OneTruck};
 ghost use Rattle.pairrules.specs.PairRules.{pairTest, apart, touches, ranksBefore, partnersFrom};
 use meaning::Limits;
 use meaning::Place;
@@ -21,18 +21,20 @@ use visits::row;
 use visits::row_word;
 use visits::stack_at;
 
+// The rules on two stacks.
 pub enum PairRule {
-    SecondPair,
-    Overlap,
-    Order,
+    SecondPair, // 17
+    Overlap, // 23
+    Order, // 25
 }
 
 // ---- the tests
 
 // 17 second pair, S3: two stacks of one code do not both have two plant docks. Codes are read for two-dock stacks only.
 fn is_single_pair(t: &[u32], limits: Limits, rows: &[u32], a: usize, b: usize) -> bool
-    requires { ⌜ Visited limits (now t) (now rows) × (a < length (stacksIn limits (now t))) × (b < length (stacksIn limits (now t))) ⌝ }
-    ensures { λ r. ⌜ r ≡ singlePair (instanceIn limits (now (t .entry))) (visitAt (stacksIn limits (now (t .entry))) a) (visitAt (stacksIn limits (now (t .entry))) b) ⌝ }
+    requires { ⌜ HoldsRows limits (now t) (now rows) × (a < length (stacksIn limits (now t))) × (b < length (stacksIn limits (now t))) ⌝ }
+    ensures { λ r. ⌜ r ≡ singlePair (instanceIn limits (now (t .entry))) (visitAt (stacksIn limits (now (t .entry))) a) (visitAt
+        (stacksIn limits (now (t .entry))) b) ⌝ }
 {
     if row_word(t, limits, rows, a, row::PLANT_DOCKS) != 2 {
         return true;
@@ -65,8 +67,9 @@ fn loads_before(a: Rank, b: Rank) -> bool
 
 // 25 order, P4. The cheap comparison comes first: ranks are compared only where the first stack stands behind the second.
 fn in_loading_order(t: &[u32], limits: Limits, rows: &[u32], a: usize, b: usize) -> bool
-    requires { ⌜ Visited limits (now t) (now rows) × (a < length (stacksIn limits (now t))) × (b < length (stacksIn limits (now t))) ⌝ }
-    ensures { λ r. ⌜ r ≡ inLoadingOrder (instanceIn limits (now (t .entry))) (visitAt (stacksIn limits (now (t .entry))) a) (visitAt (stacksIn limits (now (t .entry))) b) ⌝ }
+    requires { ⌜ HoldsRows limits (now t) (now rows) × (a < length (stacksIn limits (now t))) × (b < length (stacksIn limits (now t))) ⌝ }
+    ensures { λ r. ⌜ r ≡ inLoadingOrder (instanceIn limits (now (t .entry))) (visitAt (stacksIn limits (now (t .entry))) a) (visitAt
+        (stacksIn limits (now (t .entry))) b) ⌝ }
 {
     if row_word(t, limits, rows, a, row::X) <= row_word(t, limits, rows, b, row::X) {
         return true;
@@ -76,8 +79,9 @@ fn in_loading_order(t: &[u32], limits: Limits, rows: &[u32], a: usize, b: usize)
 
 // Whether two visited stacks keep a rule.
 fn pair_kept(rule: PairRule, t: &[u32], limits: Limits, rows: &[u32], a: usize, b: usize) -> bool
-    requires { ⌜ Visited limits (now t) (now rows) × (a < length (stacksIn limits (now t))) × (b < length (stacksIn limits (now t))) ⌝ }
-    ensures { λ r. ⌜ r ≡ pairTest rule (instanceIn limits (now (t .entry))) (visitAt (stacksIn limits (now (t .entry))) a) (visitAt (stacksIn limits (now (t .entry))) b) ⌝ }
+    requires { ⌜ HoldsRows limits (now t) (now rows) × (a < length (stacksIn limits (now t))) × (b < length (stacksIn limits (now t))) ⌝ }
+    ensures { λ r. ⌜ r ≡ pairTest rule (instanceIn limits (now (t .entry))) (visitAt (stacksIn limits (now (t .entry))) a) (visitAt
+        (stacksIn limits (now (t .entry))) b) ⌝ }
 {
     match rule {
         PairRule::SecondPair => is_single_pair(t, limits, rows, a, b),
@@ -91,8 +95,8 @@ fn pair_kept(rule: PairRule, t: &[u32], limits: Limits, rows: &[u32], a: usize, 
 
 // ---- the searches
 
-// Where the partners of the stack at place a begin. The first two rules are the same for two stacks in both orders, so of an earlier partner
-// they have been asked already. The last one holds of a stack with itself.
+// Where the partners of the stack at place a begin. 17 and 23 are the same for two stacks in both orders, so of an earlier partner they have
+// been asked already. 25 is asked both ways; it holds of a stack with itself, so that pair need not be left out.
 fn partners_from(rule: PairRule, start: usize, a: usize) -> usize
     requires { ⌜ a ≤ 16777216 ⌝ }
     ensures { λ r. ⌜ r ≡ partnersFrom rule start a ⌝ }
@@ -114,8 +118,9 @@ pub fn first_pair(
     start: usize,
     end: usize,
 ) -> Found
-    requires { ⌜ Visited limits (now t) (now rows) × OneTruck (stacksIn limits (now t)) start end ⌝ }
-    ensures { λ r. ⌜ r ≡ lowestIn (pairPlaces (pairTest rule) (instanceIn limits (now (t .entry))) (block (stacksIn limits (now (t .entry))) start end)) ⌝ }
+    requires { ⌜ HoldsRows limits (now t) (now rows) × OneTruck (stacksIn limits (now t)) start end ⌝ }
+    ensures { λ r. ⌜ r ≡ lowestIn (pairPlaces (pairTest rule) (instanceIn limits (now (t .entry))) (block (stacksIn limits (now
+        (t .entry))) start end)) ⌝ }
 {
     let mut found = Found::Nothing;
     let mut a = start;
@@ -146,8 +151,9 @@ fn braces(a: Footprint, b: Footprint) -> bool
 
 // Whether the stack at place k stands at the front wall or is held by another one.
 fn is_braced(t: &[u32], limits: Limits, rows: &[u32], start: usize, end: usize, k: usize) -> bool
-    requires { ⌜ Visited limits (now t) (now rows) × OneTruck (stacksIn limits (now t)) start end × (start ≤ k) × (k < end) ⌝ }
-    ensures { λ r. ⌜ r ≡ braced (instanceIn limits (now (t .entry))) (block (stacksIn limits (now (t .entry))) start end) (visitAt (stacksIn limits (now (t .entry))) k) ⌝ }
+    requires { ⌜ HoldsRows limits (now t) (now rows) × OneTruck (stacksIn limits (now t)) start end × (start ≤ k) × (k < end) ⌝ }
+    ensures { λ r. ⌜ r ≡ braced (instanceIn limits (now (t .entry))) (block (stacksIn limits (now (t .entry))) start end) (visitAt
+        (stacksIn limits (now (t .entry))) k) ⌝ }
 {
     let ground = footprint_at(t, limits, rows, k);
     if ground.x == 0 {
@@ -166,8 +172,9 @@ fn is_braced(t: &[u32], limits: Limits, rows: &[u32], start: usize, end: usize, 
 
 // 24 unbraced, P3: the stack with the lowest number that is not held.
 pub fn first_unbraced(t: &[u32], limits: Limits, rows: &[u32], start: usize, end: usize) -> Found
-    requires { ⌜ Visited limits (now t) (now rows) × OneTruck (stacksIn limits (now t)) start end ⌝ }
-    ensures { λ r. ⌜ r ≡ lowestIn (stackPlaces braced noAmount (instanceIn limits (now (t .entry))) (block (stacksIn limits (now (t .entry))) start end)) ⌝ }
+    requires { ⌜ HoldsRows limits (now t) (now rows) × OneTruck (stacksIn limits (now t)) start end ⌝ }
+    ensures { λ r. ⌜ r ≡ lowestIn (stackPlaces braced noAmount (instanceIn limits (now (t .entry))) (block (stacksIn limits (now
+        (t .entry))) start end)) ⌝ }
 {
     let mut a = start;
     while a < end {

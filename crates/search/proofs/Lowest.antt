@@ -77,15 +77,6 @@ pub found-none : (xs : List Place) → ((q : Place) → In q xs → ⊥) → Not
 found-none [] empty = sym lowest-none
 found-none (p ∷ xs) empty = absurd (empty p (inl refl))
 
-pub none-in : (xs : List Place) → Nothing ≡ lowestIn xs → (q : Place) → In q xs → ⊥
-unfolding lowestIn lowest lowerOf
-none-in [] e q m = m
-none-in (p ∷ xs) e q m = go (lowest xs) e
-  where
-    go : (o : Option Place) → Nothing ≡ foundOf (lowerOf p o) → ⊥
-    go none e = let z : _≡_ {A = ℕ} 0 1 = cc in omega arith
-    go (some q) e = let z : _≡_ {A = ℕ} 0 1 = cc in omega arith
-
 -- ---- two lists, one behind the other
 lowest-more : (p : Place) (ps : List Place) → lowestIn (p ∷ ps) ≡ lowerFound (At p) (lowestIn ps)
 unfolding lowestIn lowest lowerOf

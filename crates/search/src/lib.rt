@@ -1,4 +1,4 @@
-// What a search for broken rules answers. A search keeps the lowest place that it has found so far, so it may look in any order.
+// What a search for broken rules answers. Most searches keep the lowest place that they have found so far, and may then look in any order.
 ghost use mathlib.Core.Path.{_≡_};
 ghost use Rattle.meaning.specs.Lists.{onlyIf};
 ghost use Rattle.meaning.specs.Places.{place, lower};

@@ -20,8 +20,8 @@ use Rattle.search.specs.declared.Found.the-variants.{Nothing}
 use Rattle.search.specs.Lowest.{lowestIn, lowerFound}
 use Rattle.search.proofs.Lowest.{Down, down-start, down-more, down-end, lowest-members}
 use Rattle.views.specs.declared.Footprint.{Footprint}
-use Rattle.views.specs.declared.Bulk.{Bulk}
-use Rattle.views.specs.Views.{footprintOf, bulkOf, spanOf, plantDockOrders}
+use Rattle.views.specs.declared.Size.{Size}
+use Rattle.views.specs.Views.{footprintOf, sizeOf, spanOf, plantDockOrders}
 use Rattle.visits.specs.Visits.{visitAt, visited}
 use Rattle.visits.proofs.Order.{visited-length, visited-at, visited-perm}
 use Rattle.stackrules.specs.declared.StackRule.{StackRule}
@@ -65,14 +65,14 @@ module _ (i : Instance) (p : List Stack) (s v : ℕ) (at : s ≡ v) (n : ℕ) (n
   dense-is heavy limit long wide kept eh el elong ew ek er =
       one-stack densityWithin sm i (stackAt p v) kept n heavy r er number-is eh (ek ∙ rw (eh, el, elong, ew, at) refl)
 
-  pub outside-is : (ground : Footprint) (bulk : Bulk) (long wide high side : ℕ) → ground ≡ footprintOf i (stackAt p v) → bulk ≡ bulkOf i (stackAt p s)
+  pub outside-is : (ground : Footprint) (size : Size) (long wide high side : ℕ) → ground ≡ footprintOf i (stackAt p v) → size ≡ sizeOf i (stackAt p s)
       → long ≡ TL (truckOf i (stackAt p s)) → wide ≡ TW (truckOf i (stackAt p s)) → high ≡ TH (truckOf i (stackAt p s))
       → side ≡ cond (not (leb (ground .xe) long)) 1 (cond (not (leb (ground .ye) wide)) 2 3)
-      → r ≡ lowestIn (onlyIf (not ((leb (ground .xe) long && leb (ground .ye) wide) && leb (bulk .height) high)) (place n side 0))
+      → r ≡ lowestIn (onlyIf (not ((leb (ground .xe) long && leb (ground .ye) wide) && leb (size .height) high)) (place n side 0))
       → r ≡ lowestIn (stackPlaces inside exceededSide i (stackAt p v ∷ []))
-  unfolding bulkOf
-  outside-is ground bulk long wide high side eg eb el ew eh es er =
-      one-stack inside exceededSide i (stackAt p v) ((leb (ground .xe) long && leb (ground .ye) wide) && leb (bulk .height) high) n side r er number-is
+  unfolding sizeOf
+  outside-is ground size long wide high side eg eb el ew eh es er =
+      one-stack inside exceededSide i (stackAt p v) ((leb (ground .xe) long && leb (ground .ye) wide) && leb (size .height) high) n side r er number-is
       (es ∙ rw (eg, el, ew, at) refl) (rw (eg, eb, el, ew, eh, at) refl)
 
 -- ---- a plan has the places of each stack alone

@@ -5,18 +5,17 @@ use mathlib.Core.List.{List}
 use Prim.Native.Nat.{ℕ, _-_, _≤_}
 use lib.ListN.{length, getD}
 use Rattle.meaning.specs.declared.Place.{Place}
-use Rattle.meaning.specs.Lists.{any, orderFrom}
 use Rattle.meaning.specs.Model.{Instance, Stack, Item}
-use Rattle.meaning.specs.Measures.{weight, height, sm, plantDocksOf}
+use Rattle.meaning.specs.Measures.{sm}
 use Rattle.meaning.specs.Rules.{itemPlaces, stackPlaces, plantMatches, productCarried, supplierVisited, arrivesInWindow, docksServed, stackable}
-use Rattle.meaning.specs.Rules.{plantDocksAllowed, plantDockCount, consecutive, orientationKept, topWeightWithin, weightAbove, stackabilityKept, itemCount}
+use Rattle.meaning.specs.Rules.{plantDocksAllowed, plantDockCount, orientationKept, topWeightWithin, weightAbove, stackabilityKept, itemCount}
 use Rattle.meaning.specs.Rules.{densityWithin, inside, exceededSide, timesLoaded}
 use Rattle.stackrules.specs.declared.ItemRule.{ItemRule}
 use Rattle.stackrules.specs.declared.ItemRule.the-variants.{Plant, Product, Supplier, Day, Dock, Mixed, Turned}
 use Rattle.stackrules.specs.declared.StackRule.{StackRule}
 use Rattle.stackrules.specs.declared.StackRule.the-variants.{EachItem, Docks, TopHeavy, TooMany, Dense, Outside}
 
--- when a rule on an item of a stack is kept
+-- when a rule on an item of a stack is kept: 10 plant, 11 product, 12 supplier, 13 day, 14 dock, 15 mixed, 18 turned
 abbrev pub itemTest : ItemRule → Instance → Stack → Item → Bool
 itemTest Plant i s a = plantMatches i s a
 itemTest Product i s a = productCarried i s a
@@ -26,7 +25,7 @@ itemTest Dock i s a = docksServed i s a
 itemTest Mixed i s a = stackable i s a
 itemTest Turned i s a = orientationKept i s a
 
--- where a rule on stacks is broken
+-- where a rule on stacks is broken: those on items, 16 docks, 19 top heavy, 20 too many, 21 dense, 22 outside
 abbrev pub stackRulePlaces : StackRule → Instance → List Stack → List Place
 stackRulePlaces (EachItem rule) i p = itemPlaces (itemTest rule) i p
 stackRulePlaces Docks i p = stackPlaces plantDocksAllowed plantDockCount i p

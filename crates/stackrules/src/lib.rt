@@ -2,7 +2,7 @@
 ghost use mathlib.Core.Path.{_≡_};
 ghost use mathlib.Core.Bool.{not, cond};
 ghost use mathlib.Core.List.{[], _∷_};
-ghost use Prim.Native.Nat.{ℕ, _+_, _*_, _≤_, _<_};
+ghost use Prim.Native.Nat.{_+_, _*_, _≤_, _<_};
 ghost use lib.Dec.{leb, eqb};
 ghost use lib.ListN.{length, getD, drop};
 ghost use Rattle.meaning.specs.Model.{item};
@@ -11,7 +11,7 @@ ghost use Rattle.meaning.specs.Table.{instanceIn, stacksIn};
 ghost use Rattle.meaning.specs.Rules.{notOnce, plantMatches, productCarried, supplierVisited, arrivesInWindow, docksServed, stackable, orientationKept};
 ghost use Rattle.table.specs.Filled.{Filled, stackAt, ItemNumber};
 ghost use Rattle.search.specs.Lowest.{lowestIn};
-ghost use Rattle.visits.specs.Visits.{visitAt, Visited};
+ghost use Rattle.visits.specs.Visits.{visitAt, HoldsRows};
 ghost use Rattle.stackrules.specs.StackRules.{itemTest, stackRulePlaces, Tally};
 use meaning::Limits;
 use search::Found;
@@ -50,10 +50,10 @@ use table::stack_count;
 use table::stack_field;
 use table::stack_truck;
 use views::bottom_field;
-use views::carrier_field;
 use views::load_sum;
 use views::plant_dock_order;
-use views::read_bulk;
+use views::read_size;
+use views::stack_truck_field;
 use views::supplier_dock_order;
 use views::supplier_order;
 use visits::footprint_at;
@@ -63,8 +63,8 @@ use visits::stack_at;
 
 // ---- 9, not once
 
-// The place of an item's count.
-fn count_place(n: u32) -> usize
+// Where an item's count stands.
+fn count_index(n: u32) -> usize
     requires { ⌜ 1 ≤ n ⌝ }
     ensures { λ r. ⌜ (r + 1 ≡ n) × (r < 4294967296) ⌝ }
 {
@@ -80,7 +80,7 @@ fn count_load(t: &[u32], limits: Limits, s: usize, times: &mut [u32])
     let mut j = load_count(t, limits, s);
     while 0 < j {
         j -= 1;
-        let at = count_place(load_entry(t, limits, s, j));
+        let at = count_index(load_entry(t, limits, s, j));
         times[at] = times[at] + 1;
     }
 }
@@ -107,7 +107,7 @@ pub fn lowest_not_once(t: &[u32], limits: Limits, times: &mut [u32]) -> Found
     let mut found = Found::Nothing;
     let mut n = item_count(t, limits);
     while 0 < n {
-        let count = times[count_place(n)];
+        let count = times[count_index(n)];
         found = lower_of(place_if(count != 1, n, count, 0), found);
         n -= 1;
     }
@@ -116,28 +116,31 @@ pub fn lowest_not_once(t: &[u32], limits: Limits, times: &mut [u32]) -> Found
 
 // ---- the rules on each item of a stack: 10 to 15 and 18
 
+// The rules on an item of a stack.
 pub enum ItemRule {
-    Plant,
-    Product,
-    Supplier,
-    Day,
-    Dock,
-    Mixed,
-    Turned,
+    Plant, // 10
+    Product, // 11
+    Supplier, // 12
+    Day, // 13
+    Dock, // 14
+    Mixed, // 15
+    Turned, // 18
 }
 
 // 10 plant, I2: the truck goes to the item's plant.
 fn plant_matches(t: &[u32], limits: Limits, s: usize, n: u32) -> bool
     requires { ⌜ Filled limits (now t) × (s < length (stacksIn limits (now t))) × ItemNumber (instanceIn limits (now t)) n ⌝ }
-    ensures { λ r. ⌜ r ≡ plantMatches (instanceIn limits (now (t .entry))) (stackAt (stacksIn limits (now (t .entry))) s) (item (instanceIn limits (now (t .entry))) n) ⌝ }
+    ensures { λ r. ⌜ r ≡ plantMatches (instanceIn limits (now (t .entry))) (stackAt (stacksIn limits (now (t .entry))) s) (item
+        (instanceIn limits (now (t .entry))) n) ⌝ }
 {
-    item_field(t, limits, n, IP) == carrier_field(t, limits, s, TP)
+    item_field(t, limits, n, IP) == stack_truck_field(t, limits, s, TP)
 }
 
 // 11 product, I3: the truck takes the item's product.
 fn product_carried(t: &[u32], limits: Limits, s: usize, n: u32) -> bool
     requires { ⌜ Filled limits (now t) × (s < length (stacksIn limits (now t))) × ItemNumber (instanceIn limits (now t)) n ⌝ }
-    ensures { λ r. ⌜ r ≡ productCarried (instanceIn limits (now (t .entry))) (stackAt (stacksIn limits (now (t .entry))) s) (item (instanceIn limits (now (t .entry))) n) ⌝ }
+    ensures { λ r. ⌜ r ≡ productCarried (instanceIn limits (now (t .entry))) (stackAt (stacksIn limits (now (t .entry))) s) (item
+        (instanceIn limits (now (t .entry))) n) ⌝ }
 {
     let list = products(t, limits, stack_truck(t, limits, s));
     1 <= order_in(list, item_field(t, limits, n, IR))
@@ -146,7 +149,8 @@ fn product_carried(t: &[u32], limits: Limits, s: usize, n: u32) -> bool
 // 12 supplier, I4: the truck stops at the item's supplier.
 fn supplier_visited(t: &[u32], limits: Limits, s: usize, n: u32) -> bool
     requires { ⌜ Filled limits (now t) × (s < length (stacksIn limits (now t))) × ItemNumber (instanceIn limits (now t)) n ⌝ }
-    ensures { λ r. ⌜ r ≡ supplierVisited (instanceIn limits (now (t .entry))) (stackAt (stacksIn limits (now (t .entry))) s) (item (instanceIn limits (now (t .entry))) n) ⌝ }
+    ensures { λ r. ⌜ r ≡ supplierVisited (instanceIn limits (now (t .entry))) (stackAt (stacksIn limits (now (t .entry))) s) (item
+        (instanceIn limits (now (t .entry))) n) ⌝ }
 {
     1 <= supplier_order(t, limits, s, item_field(t, limits, n, IU))
 }
@@ -154,24 +158,27 @@ fn supplier_visited(t: &[u32], limits: Limits, s: usize, n: u32) -> bool
 // 13 day, I5: the truck arrives within the item's days.
 fn arrives_in_window(t: &[u32], limits: Limits, s: usize, n: u32) -> bool
     requires { ⌜ Filled limits (now t) × (s < length (stacksIn limits (now t))) × ItemNumber (instanceIn limits (now t)) n ⌝ }
-    ensures { λ r. ⌜ r ≡ arrivesInWindow (instanceIn limits (now (t .entry))) (stackAt (stacksIn limits (now (t .entry))) s) (item (instanceIn limits (now (t .entry))) n) ⌝ }
+    ensures { λ r. ⌜ r ≡ arrivesInWindow (instanceIn limits (now (t .entry))) (stackAt (stacksIn limits (now (t .entry))) s) (item
+        (instanceIn limits (now (t .entry))) n) ⌝ }
 {
-    let day = carrier_field(t, limits, s, TDA);
+    let day = stack_truck_field(t, limits, s, TDA);
     (item_field(t, limits, n, IDE) <= day) & (day <= item_field(t, limits, n, IDL))
 }
 
 // 14 dock: both docks of the item are listed.
 fn docks_served(t: &[u32], limits: Limits, s: usize, n: u32) -> bool
     requires { ⌜ Filled limits (now t) × (s < length (stacksIn limits (now t))) × ItemNumber (instanceIn limits (now t)) n ⌝ }
-    ensures { λ r. ⌜ r ≡ docksServed (instanceIn limits (now (t .entry))) (stackAt (stacksIn limits (now (t .entry))) s) (item (instanceIn limits (now (t .entry))) n) ⌝ }
+    ensures { λ r. ⌜ r ≡ docksServed (instanceIn limits (now (t .entry))) (stackAt (stacksIn limits (now (t .entry))) s) (item
+        (instanceIn limits (now (t .entry))) n) ⌝ }
 {
     (1 <= supplier_dock_order(t, limits, s, n)) & (1 <= plant_dock_order(t, limits, s, n))
 }
 
 // Whether an item has the bottom item's value in a field.
-fn as_bottom(t: &[u32], limits: Limits, s: usize, n: u32, field: usize) -> bool
+fn matches_bottom(t: &[u32], limits: Limits, s: usize, n: u32, field: usize) -> bool
     requires { ⌜ Filled limits (now t) × (s < length (stacksIn limits (now t))) × ItemNumber (instanceIn limits (now t)) n × (field < 16) ⌝ }
-    ensures { λ r. ⌜ r ≡ eqb (getD (item (instanceIn limits (now (t .entry))) n) field 0) (getD (bottom (instanceIn limits (now (t .entry))) (stackAt (stacksIn limits (now (t .entry))) s)) field 0) ⌝ }
+    ensures { λ r. ⌜ r ≡ eqb (getD (item (instanceIn limits (now (t .entry))) n) field 0) (getD (bottom (instanceIn limits (now (t .entry)))
+        (stackAt (stacksIn limits (now (t .entry))) s)) field 0) ⌝ }
 {
     item_field(t, limits, n, field) == bottom_field(t, limits, s, field)
 }
@@ -179,18 +186,20 @@ fn as_bottom(t: &[u32], limits: Limits, s: usize, n: u32, field: usize) -> bool
 // 15 mixed, S1: supplier, plant, code, maximal stackability and supplier dock are the bottom item's.
 fn is_stackable(t: &[u32], limits: Limits, s: usize, n: u32) -> bool
     requires { ⌜ Filled limits (now t) × (s < length (stacksIn limits (now t))) × ItemNumber (instanceIn limits (now t)) n ⌝ }
-    ensures { λ r. ⌜ r ≡ stackable (instanceIn limits (now (t .entry))) (stackAt (stacksIn limits (now (t .entry))) s) (item (instanceIn limits (now (t .entry))) n) ⌝ }
+    ensures { λ r. ⌜ r ≡ stackable (instanceIn limits (now (t .entry))) (stackAt (stacksIn limits (now (t .entry))) s) (item
+        (instanceIn limits (now (t .entry))) n) ⌝ }
 {
-    (((as_bottom(t, limits, s, n, IU) & as_bottom(t, limits, s, n, IP))
-        & as_bottom(t, limits, s, n, IS))
-        & as_bottom(t, limits, s, n, ISM))
-        & as_bottom(t, limits, s, n, IK)
+    (((matches_bottom(t, limits, s, n, IU) & matches_bottom(t, limits, s, n, IP))
+        & matches_bottom(t, limits, s, n, IS))
+        & matches_bottom(t, limits, s, n, ISM))
+        & matches_bottom(t, limits, s, n, IK)
 }
 
 // 18 turned, S4: a forced orientation is the stack's.
 fn orientation_kept(t: &[u32], limits: Limits, s: usize, n: u32) -> bool
     requires { ⌜ Filled limits (now t) × (s < length (stacksIn limits (now t))) × ItemNumber (instanceIn limits (now t)) n ⌝ }
-    ensures { λ r. ⌜ r ≡ orientationKept (instanceIn limits (now (t .entry))) (stackAt (stacksIn limits (now (t .entry))) s) (item (instanceIn limits (now (t .entry))) n) ⌝ }
+    ensures { λ r. ⌜ r ≡ orientationKept (instanceIn limits (now (t .entry))) (stackAt (stacksIn limits (now (t .entry))) s) (item
+        (instanceIn limits (now (t .entry))) n) ⌝ }
 {
     let forced = item_field(t, limits, n, IO);
     (forced == 0) | (forced == stack_field(t, limits, s, ORIENTATION))
@@ -199,7 +208,8 @@ fn orientation_kept(t: &[u32], limits: Limits, s: usize, n: u32) -> bool
 // Whether an item of a stack keeps a rule.
 fn item_kept(rule: ItemRule, t: &[u32], limits: Limits, s: usize, n: u32) -> bool
     requires { ⌜ Filled limits (now t) × (s < length (stacksIn limits (now t))) × ItemNumber (instanceIn limits (now t)) n ⌝ }
-    ensures { λ r. ⌜ r ≡ itemTest rule (instanceIn limits (now (t .entry))) (stackAt (stacksIn limits (now (t .entry))) s) (item (instanceIn limits (now (t .entry))) n) ⌝ }
+    ensures { λ r. ⌜ r ≡ itemTest rule (instanceIn limits (now (t .entry))) (stackAt (stacksIn limits (now (t .entry))) s) (item
+        (instanceIn limits (now (t .entry))) n) ⌝ }
 {
     match rule {
         ItemRule::Plant => plant_matches(t, limits, s, n),
@@ -215,7 +225,8 @@ fn item_kept(rule: ItemRule, t: &[u32], limits: Limits, s: usize, n: u32) -> boo
 // The lowest item of a stack that breaks a rule.
 fn lowest_item(rule: ItemRule, t: &[u32], limits: Limits, s: usize) -> Found
     requires { ⌜ Filled limits (now t) × (s < length (stacksIn limits (now t))) ⌝ }
-    ensures { λ r. ⌜ r ≡ lowestIn (stackRulePlaces (StackRule.EachItem rule) (instanceIn limits (now (t .entry))) ((stackAt (stacksIn limits (now (t .entry))) s) ∷ [])) ⌝ }
+    ensures { λ r. ⌜ r ≡ lowestIn (stackRulePlaces (StackRule.EachItem rule) (instanceIn limits (now (t .entry))) ((stackAt (stacksIn limits
+        (now (t .entry))) s) ∷ [])) ⌝ }
 {
     let number = stack_field(t, limits, s, NUMBER);
     let mut found = Found::Nothing;
@@ -229,27 +240,30 @@ fn lowest_item(rule: ItemRule, t: &[u32], limits: Limits, s: usize) -> Found
     found
 }
 
-// ---- the rules on each stack: those on its items, 16 and 19 to 22
+// ---- the rules on each stack: those on its items, 16 and 19 to 22. Each function answers where the stack that is visited at place k breaks
+// its rule
 
+// The rules on a stack.
 pub enum StackRule {
     EachItem(ItemRule),
-    Docks,
-    TopHeavy,
-    TooMany,
-    Dense,
-    Outside,
+    Docks, // 16
+    TopHeavy, // 19
+    TooMany, // 20
+    Dense, // 21
+    Outside, // 22
 }
 
 // 16 docks, S2 and S3: one plant dock; where the truck's flag is set also two, if they are consecutive.
 fn docks_place(t: &[u32], limits: Limits, rows: &[u32], k: usize) -> Found
-    requires { ⌜ Visited limits (now t) (now rows) × (k < length (stacksIn limits (now t))) ⌝ }
-    ensures { λ r. ⌜ r ≡ lowestIn (stackRulePlaces StackRule.Docks (instanceIn limits (now (t .entry))) (visitAt (stacksIn limits (now (t .entry))) k ∷ [])) ⌝ }
+    requires { ⌜ HoldsRows limits (now t) (now rows) × (k < length (stacksIn limits (now t))) ⌝ }
+    ensures { λ r. ⌜ r ≡ lowestIn (stackRulePlaces StackRule.Docks (instanceIn limits (now (t .entry))) (visitAt (stacksIn limits (now
+        (t .entry))) k ∷ [])) ⌝ }
 {
     let count = row_word(t, limits, rows, k, row::PLANT_DOCKS);
-    let two = carrier_field(t, limits, stack_at(t, limits, rows, k), TF) == 1;
+    let two_docks = stack_truck_field(t, limits, stack_at(t, limits, rows, k), TF) == 1;
     let after = row_word(t, limits, rows, k, row::LOWEST) + 1;
     let consecutive = (count == 2) & (after == row_word(t, limits, rows, k, row::HIGHEST));
-    let allowed = (count <= 1) | (two & consecutive);
+    let allowed = (count <= 1) | (two_docks & consecutive);
     place_if(
         !allowed,
         row_word(t, limits, rows, k, row::NUMBER),
@@ -260,19 +274,21 @@ fn docks_place(t: &[u32], limits: Limits, rows: &[u32], k: usize) -> Found
 
 // 19 top heavy, S5: the weight above the bottom item is within the truck's limit.
 fn top_heavy_place(t: &[u32], limits: Limits, rows: &[u32], k: usize) -> Found
-    requires { ⌜ Visited limits (now t) (now rows) × (k < length (stacksIn limits (now t))) ⌝ }
-    ensures { λ r. ⌜ r ≡ lowestIn (stackRulePlaces StackRule.TopHeavy (instanceIn limits (now (t .entry))) (visitAt (stacksIn limits (now (t .entry))) k ∷ [])) ⌝ }
+    requires { ⌜ HoldsRows limits (now t) (now rows) × (k < length (stacksIn limits (now t))) ⌝ }
+    ensures { λ r. ⌜ r ≡ lowestIn (stackRulePlaces StackRule.TopHeavy (instanceIn limits (now (t .entry))) (visitAt (stacksIn limits (now
+        (t .entry))) k ∷ [])) ⌝ }
 {
     let s = stack_at(t, limits, rows, k);
     let above = load_sum(t, limits, s, 1, IM);
-    let within = above <= carrier_field(t, limits, s, TOP_LIMIT);
+    let within = above <= stack_truck_field(t, limits, s, TOP_LIMIT);
     place_if(!within, row_word(t, limits, rows, k, row::NUMBER), above, 0)
 }
 
 // 20 too many, S6: no more items than the maximal stackability.
 fn too_many_place(t: &[u32], limits: Limits, rows: &[u32], k: usize) -> Found
-    requires { ⌜ Visited limits (now t) (now rows) × (k < length (stacksIn limits (now t))) ⌝ }
-    ensures { λ r. ⌜ r ≡ lowestIn (stackRulePlaces StackRule.TooMany (instanceIn limits (now (t .entry))) (visitAt (stacksIn limits (now (t .entry))) k ∷ [])) ⌝ }
+    requires { ⌜ HoldsRows limits (now t) (now rows) × (k < length (stacksIn limits (now t))) ⌝ }
+    ensures { λ r. ⌜ r ≡ lowestIn (stackRulePlaces StackRule.TooMany (instanceIn limits (now (t .entry))) (visitAt (stacksIn limits (now
+        (t .entry))) k ∷ [])) ⌝ }
 {
     let s = stack_at(t, limits, rows, k);
     let count = load_count(t, limits, s) as u32;
@@ -290,14 +306,15 @@ fn density_kept(weight: u32, limit: u32, length: u32, width: u32) -> bool
 
 // 21 dense, S7: the weight on the ground is within the truck's density limit.
 fn dense_place(t: &[u32], limits: Limits, rows: &[u32], k: usize) -> Found
-    requires { ⌜ Visited limits (now t) (now rows) × (k < length (stacksIn limits (now t))) ⌝ }
-    ensures { λ r. ⌜ r ≡ lowestIn (stackRulePlaces StackRule.Dense (instanceIn limits (now (t .entry))) (visitAt (stacksIn limits (now (t .entry))) k ∷ [])) ⌝ }
+    requires { ⌜ HoldsRows limits (now t) (now rows) × (k < length (stacksIn limits (now t))) ⌝ }
+    ensures { λ r. ⌜ r ≡ lowestIn (stackRulePlaces StackRule.Dense (instanceIn limits (now (t .entry))) (visitAt (stacksIn limits (now
+        (t .entry))) k ∷ [])) ⌝ }
 {
     let s = stack_at(t, limits, rows, k);
     let weight = row_word(t, limits, rows, k, row::WEIGHT);
     let length = bottom_field(t, limits, s, IL);
     let width = bottom_field(t, limits, s, IW);
-    let kept = density_kept(weight, carrier_field(t, limits, s, TEM), length, width);
+    let kept = density_kept(weight, stack_truck_field(t, limits, s, TEM), length, width);
     place_if(!kept, row_word(t, limits, rows, k, row::NUMBER), weight, 0)
 }
 
@@ -316,15 +333,16 @@ fn exceeded_side(length: bool, width: bool) -> u32
 
 // 22 outside, P1: the stack is within the trailer.
 fn outside_place(t: &[u32], limits: Limits, rows: &[u32], k: usize) -> Found
-    requires { ⌜ Visited limits (now t) (now rows) × (k < length (stacksIn limits (now t))) ⌝ }
-    ensures { λ r. ⌜ r ≡ lowestIn (stackRulePlaces StackRule.Outside (instanceIn limits (now (t .entry))) (visitAt (stacksIn limits (now (t .entry))) k ∷ [])) ⌝ }
+    requires { ⌜ HoldsRows limits (now t) (now rows) × (k < length (stacksIn limits (now t))) ⌝ }
+    ensures { λ r. ⌜ r ≡ lowestIn (stackRulePlaces StackRule.Outside (instanceIn limits (now (t .entry))) (visitAt (stacksIn limits (now
+        (t .entry))) k ∷ [])) ⌝ }
 {
     let s = stack_at(t, limits, rows, k);
     let ground = footprint_at(t, limits, rows, k);
-    let bulk = read_bulk(t, limits, s);
-    let length = ground.xe <= carrier_field(t, limits, s, TL);
-    let width = ground.ye <= carrier_field(t, limits, s, TW);
-    let height = bulk.height <= carrier_field(t, limits, s, TH);
+    let size = read_size(t, limits, s);
+    let length = ground.xe <= stack_truck_field(t, limits, s, TL);
+    let width = ground.ye <= stack_truck_field(t, limits, s, TW);
+    let height = size.height <= stack_truck_field(t, limits, s, TH);
     let inside = (length & width) & height;
     place_if(
         !inside,
@@ -336,7 +354,7 @@ fn outside_place(t: &[u32], limits: Limits, rows: &[u32], k: usize) -> Found
 
 // Where the stack that is visited at place k breaks a rule.
 fn stack_place(rule: StackRule, t: &[u32], limits: Limits, rows: &[u32], k: usize) -> Found
-    requires { ⌜ Visited limits (now t) (now rows) × (k < length (stacksIn limits (now t))) ⌝ }
+    requires { ⌜ HoldsRows limits (now t) (now rows) × (k < length (stacksIn limits (now t))) ⌝ }
     ensures { λ r. ⌜ r ≡ lowestIn (stackRulePlaces rule (instanceIn limits (now (t .entry))) (visitAt (stacksIn limits (now (t .entry))) k ∷ [])) ⌝ }
 {
     match rule {
@@ -351,7 +369,7 @@ fn stack_place(rule: StackRule, t: &[u32], limits: Limits, rows: &[u32], k: usiz
 
 // The lowest place where a rule on stacks is broken.
 pub fn lowest_stack(rule: StackRule, t: &[u32], limits: Limits, rows: &[u32]) -> Found
-    requires { ⌜ Visited limits (now t) (now rows) ⌝ }
+    requires { ⌜ HoldsRows limits (now t) (now rows) ⌝ }
     ensures { λ r. ⌜ r ≡ lowestIn (stackRulePlaces rule (instanceIn limits (now (t .entry))) (stacksIn limits (now (t .entry)))) ⌝ }
 {
     let mut found = Found::Nothing;

@@ -40,8 +40,8 @@ module _ {m : Limits} {t : List ℕ} (h : Filled m t) (s : ℕ) (l : s < length 
       → getD (item (instanceIn m t) (getD (stackAt (stacksIn m t) s .load) j 0)) f 0 ≤ itemMost f
   entry-most j f k b = item-most _ (item-in h _ (stack-in h s l .entries j k)) f b
 
-  pub carrier-in : TruckInRange (truckOf (instanceIn m t) (stackAt (stacksIn m t) s))
-  carrier-in = truck-in h (truck (stackAt (stacksIn m t) s)) (stack-in h s l .within 1 (omega arith))
+  pub stack-truck-in : TruckInRange (truckOf (instanceIn m t) (stackAt (stacksIn m t) s))
+  stack-truck-in = truck-in h (truck (stackAt (stacksIn m t) s)) (stack-in h s l .within 1 (omega arith))
 
   pub footprint-bounds : let i = instanceIn m t in let a = stackAt (stacksIn m t) s in (x a ≤ 20000) × (xe i a ≤ 40000) × (y a ≤ 20000) × (ye i a ≤ 40000)
   footprint-bounds =
@@ -61,7 +61,7 @@ module _ {m : Limits} {t : List ℕ} (h : Filled m t) (s : ℕ) (l : s < length 
   weight-bound = sum-most (λ n. IM (item (instanceIn m t) n)) 50000 (stackAt (stacksIn m t) s .load) (λ j k. entry-most j 4 k (omega arith))
 
   pub orders-bound : (n : ℕ) → plantDockOrder (instanceIn m t) (stackAt (stacksIn m t) s) (item (instanceIn m t) n) ≤ 8
-  orders-bound n = order-most 8 _ _ (carrier-in .plantDocks .most)
+  orders-bound n = order-most 8 _ _ (stack-truck-in .plantDocks .most)
 
   pub supplier-order-bound : supplierOrder (instanceIn m t) (stackAt (stacksIn m t) s) ≤ 8
-  supplier-order-bound = order-most 8 _ _ (carrier-in .suppliers .most)
+  supplier-order-bound = order-most 8 _ _ (stack-truck-in .suppliers .most)

@@ -16,10 +16,10 @@ use Rattle.meaning.proofs.Heights.{sum-below, sum-tail}
 use Rattle.table.specs.Filled.{docksAtOrder}
 use Rattle.views.specs.declared.Extent.{Extent}
 use Rattle.views.specs.declared.Footprint.{Footprint}
-use Rattle.views.specs.declared.Bulk.{Bulk}
+use Rattle.views.specs.declared.Size.{Size}
 use Rattle.views.specs.declared.Span.{Span}
 use Rattle.views.specs.declared.Rank.{Rank}
-use Rattle.views.specs.Views.{extentOf, footprintOf, bulkOf, spanWith, spanOf, plantDockOrders, rankOf}
+use Rattle.views.specs.Views.{extentOf, footprintOf, sizeOf, spanWith, spanOf, plantDockOrders, rankOf}
 
 module _ (i : Instance) (a : Stack) where
   -- ---- fields
@@ -50,9 +50,9 @@ module _ (i : Instance) (a : Stack) where
         let deep : ℕ → ℕ = λ n. nesting (item i n) in
         omega (arith, eh, en, sum-tail deep (a .load), sum-below deep high (a .load) (h .nested))
 
-    pub bulk-is : {total : ℕ} → total ≡ sum (λ n. IM (item i n)) (a .load) → _≡_ {A = Bulk} (record { weight = total; height = heights - nested }) (bulkOf i a)
-    unfolding bulkOf weight height
-    bulk-is ew = rw (ew, eh, en) refl
+    pub size-is : {total : ℕ} → total ≡ sum (λ n. IM (item i n)) (a .load) → _≡_ {A = Size} (record { weight = total; height = heights - nested }) (sizeOf i a)
+    unfolding sizeOf weight height
+    size-is ew = rw (ew, eh, en) refl
 
   -- ---- loading orders
   -- in a list of the stack's truck

@@ -4,12 +4,12 @@ use mathlib.Core.List.{List, [], _∷_, map}
 use Prim.Native.Nat.{ℕ}
 use lib.Dec.{ltb}
 use lib.ListN.{drop}
-use Rattle.meaning.specs.Lists.{sum, orderFrom}
+use Rattle.meaning.specs.Lists.{orderFrom}
 use Rattle.meaning.specs.Model.{Instance, Stack, item, x, y, IG, IU, IK}
 use Rattle.meaning.specs.Measures.{along, across, xe, ye, sm, weight, height, bottom, supplierOrder, supplierDockOrder, plantDockOrder}
 use Rattle.views.specs.declared.Extent.{Extent}
 use Rattle.views.specs.declared.Footprint.{Footprint}
-use Rattle.views.specs.declared.Bulk.{Bulk}
+use Rattle.views.specs.declared.Size.{Size}
 use Rattle.views.specs.declared.Span.{Span}
 use Rattle.views.specs.declared.Rank.{Rank}
 
@@ -21,10 +21,10 @@ extentOf i s = record { along = along i s; across = across i s }
 abbrev pub footprintOf : Instance → Stack → Footprint
 footprintOf i s = record { x = x s; xe = xe i s; y = y s; ye = ye i s }
 
--- sm and the height
-unfoldable pub bulkOf : Instance → Stack → Bulk
+-- "Height is the sum of IH less the nesting heights ..", "weight sm is the sum of IM"
+unfoldable pub sizeOf : Instance → Stack → Size
 unfolding weight height
-bulkOf i s = record { weight = sm i s; height = height i s }
+sizeOf i s = record { weight = sm i s; height = height i s }
 
 -- the loading orders of the plant docks, item by item
 unfoldable pub plantDockOrders : Instance → Stack → List ℕ
@@ -38,12 +38,12 @@ spanWith order span = record {
   highest = cond (ltb (span .highest) order) order (span .highest);
 }
 
--- the lowest and the highest of some loading orders. A truck has at most 8 plant docks, so 8 is above no lowest one
+-- the lowest and the highest of some loading orders. A truck has at most 8 plant docks, so no order is above 8, and 8 begins the lowest
 unfoldable pub spanOf : List ℕ → Span
 spanOf [] = record { lowest = 8; highest = 0 }
 spanOf (order ∷ l) = spanWith order (spanOf l)
 
--- what P4 compares
+-- 25 order, P4: what is compared of two stacks
 unfoldable pub rankOf : Instance → Stack → Rank
 unfolding orderFrom spanOf plantDockOrders
 rankOf i s = record {

@@ -1,7 +1,6 @@
 // What the rules see of a stack: small structs by value, read from a filled table. Stacks go by their place in the file, from 0.
 ghost use mathlib.Core.Path.{_≡_};
-ghost use mathlib.Core.List.{map};
-ghost use Prim.Native.Nat.{ℕ, _+_, _*_, _≤_, _<_};
+ghost use Prim.Native.Nat.{_*_, _≤_, _<_};
 ghost use lib.ListN.{length, getD, drop};
 ghost use Rattle.meaning.specs.Lists.{sum, listed, orderIn};
 ghost use Rattle.meaning.specs.Model.{item, truckOf};
@@ -9,7 +8,7 @@ ghost use Rattle.meaning.specs.Measures.{bottom, supplierDockOrder, plantDockOr
 ghost use Rattle.meaning.specs.Rules.{plantDockCount};
 ghost use Rattle.meaning.specs.Table.{instanceIn, stacksIn};
 ghost use Rattle.table.specs.Filled.{Filled, stackAt, ItemNumber, itemMost, truckMost};
-ghost use Rattle.views.specs.Views.{extentOf, footprintOf, bulkOf, rankOf, spanOf, spanWith, plantDockOrders, plantDocksFrom};
+ghost use Rattle.views.specs.Views.{extentOf, footprintOf, sizeOf, rankOf, spanOf, spanWith, plantDockOrders, plantDocksFrom};
 use meaning::Limits;
 use table::docks;
 use table::fields::IG;
@@ -17,7 +16,6 @@ use table::fields::IH;
 use table::fields::IK;
 use table::fields::IL;
 use table::fields::IM;
-use table::fields::IS;
 use table::fields::IU;
 use table::fields::IW;
 use table::fields::NESTING;
@@ -49,7 +47,7 @@ pub struct Footprint {
 }
 
 // The weight and the height of a stack.
-pub struct Bulk {
+pub struct Size {
     pub weight: u32,
     pub height: u32,
 }
@@ -68,15 +66,17 @@ pub struct Rank {
 // A field of a stack's bottom item.
 pub fn bottom_field(t: &[u32], limits: Limits, s: usize, field: usize) -> u32
     requires { ⌜ Filled limits (now t) × (s < length (stacksIn limits (now t))) × (field < 16) ⌝ }
-    ensures { λ r. ⌜ (r ≡ getD (bottom (instanceIn limits (now (t .entry))) (stackAt (stacksIn limits (now (t .entry))) s)) field 0) × (r ≤ itemMost field) ⌝ }
+    ensures { λ r. ⌜ (r ≡ getD (bottom (instanceIn limits (now (t .entry))) (stackAt (stacksIn limits (now (t .entry))) s)) field 0)
+        × (r ≤ itemMost field) ⌝ }
 {
     item_field(t, limits, load_entry(t, limits, s, 0), field)
 }
 
 // A field of the truck that a stack is on.
-pub fn carrier_field(t: &[u32], limits: Limits, s: usize, field: usize) -> u32
+pub fn stack_truck_field(t: &[u32], limits: Limits, s: usize, field: usize) -> u32
     requires { ⌜ Filled limits (now t) × (s < length (stacksIn limits (now t))) × (field < 20) ⌝ }
-    ensures { λ r. ⌜ (r ≡ getD (truckOf (instanceIn limits (now (t .entry))) (stackAt (stacksIn limits (now (t .entry))) s) .fields) field 0) × (r ≤ truckMost field) ⌝ }
+    ensures { λ r. ⌜ (r ≡ getD (truckOf (instanceIn limits (now (t .entry))) (stackAt (stacksIn limits (now
+        (t .entry))) s) .fields) field 0) × (r ≤ truckMost field) ⌝ }
 {
     truck_field(t, limits, stack_truck(t, limits, s), field)
 }
@@ -84,7 +84,8 @@ pub fn carrier_field(t: &[u32], limits: Limits, s: usize, field: usize) -> u32
 // How far a stack reaches along the trailer and across it. No other function knows what an orientation means.
 fn read_extent(t: &[u32], limits: Limits, s: usize) -> Extent
     requires { ⌜ Filled limits (now t) × (s < length (stacksIn limits (now t))) ⌝ }
-    ensures { λ r. ⌜ (r ≡ extentOf (instanceIn limits (now (t .entry))) (stackAt (stacksIn limits (now (t .entry))) s)) × (r .along ≤ 20000) × (r .across ≤ 20000) ⌝ }
+    ensures { λ r. ⌜ (r ≡ extentOf (instanceIn limits (now (t .entry))) (stackAt (stacksIn limits (now (t .entry))) s)) × (r .along ≤ 20000)
+        × (r .across ≤ 20000) ⌝ }
 {
     let length = bottom_field(t, limits, s, IL);
     let width = bottom_field(t, limits, s, IW);
@@ -116,10 +117,11 @@ pub fn read_footprint(t: &[u32], limits: Limits, s: usize) -> Footprint
     }
 }
 
-// The sum of a field over the items of a stack from place `from` on.
+// The sum of a field over the items of a stack: all of them from 0, those above the bottom item from 1.
 pub fn load_sum(t: &[u32], limits: Limits, s: usize, from: usize, field: usize) -> u32
     requires { ⌜ Filled limits (now t) × (s < length (stacksIn limits (now t))) × (from ≤ 1) × (field < 16) ⌝ }
-    ensures { λ r. ⌜ (r ≡ sum (λ n. getD (item (instanceIn limits (now (t .entry))) n) field 0) (drop from ((stackAt (stacksIn limits (now (t .entry))) s) .load)))
+    ensures { λ r. ⌜ (r ≡ sum (λ n. getD (item (instanceIn limits (now (t .entry))) n) field 0) (drop from ((stackAt (stacksIn limits (now
+        (t .entry))) s) .load)))
         × (r ≤ itemMost field * 64) ⌝ }
 {
     let n = load_count(t, limits, s);
@@ -133,14 +135,14 @@ pub fn load_sum(t: &[u32], limits: Limits, s: usize, from: usize, field: usize) 
 }
 
 // The weight and the height of a stack. Each item but the bottom one sinks by its nesting height into the one below it.
-pub fn read_bulk(t: &[u32], limits: Limits, s: usize) -> Bulk
+pub fn read_size(t: &[u32], limits: Limits, s: usize) -> Size
     requires { ⌜ Filled limits (now t) × (s < length (stacksIn limits (now t))) ⌝ }
-    ensures { λ r. ⌜ r ≡ bulkOf (instanceIn limits (now (t .entry))) (stackAt (stacksIn limits (now (t .entry))) s) ⌝ }
+    ensures { λ r. ⌜ r ≡ sizeOf (instanceIn limits (now (t .entry))) (stackAt (stacksIn limits (now (t .entry))) s) ⌝ }
 {
     let weight = load_sum(t, limits, s, 0, IM);
     let heights = load_sum(t, limits, s, 0, IH);
     let nested = load_sum(t, limits, s, 1, NESTING);
-    Bulk {
+    Size {
         weight: weight,
         height: heights - nested,
     }
@@ -160,20 +162,22 @@ pub fn supplier_order(t: &[u32], limits: Limits, s: usize, supplier: u32) -> usi
 // The loading order of an item's supplier dock among the docks of its supplier.
 pub fn supplier_dock_order(t: &[u32], limits: Limits, s: usize, n: u32) -> usize
     requires { ⌜ Filled limits (now t) × (s < length (stacksIn limits (now t))) × ItemNumber (instanceIn limits (now t)) n ⌝ }
-    ensures { λ r. ⌜ (r ≡ supplierDockOrder (instanceIn limits (now (t .entry))) (stackAt (stacksIn limits (now (t .entry))) s) (item (instanceIn limits (now (t .entry))) n)) × (r ≤ 8) ⌝ }
+    ensures { λ r. ⌜ (r ≡ supplierDockOrder (instanceIn limits (now (t .entry))) (stackAt (stacksIn limits (now (t .entry))) s) (item
+        (instanceIn limits (now (t .entry))) n)) × (r ≤ 8) ⌝ }
 {
-    let place = supplier_order(t, limits, s, item_field(t, limits, n, IU));
-    if place == 0 {
+    let order = supplier_order(t, limits, s, item_field(t, limits, n, IU));
+    if order == 0 {
         return 0;
     }
-    let list = docks(t, limits, stack_truck(t, limits, s), place);
+    let list = docks(t, limits, stack_truck(t, limits, s), order);
     order_in(list, item_field(t, limits, n, IK))
 }
 
 // The loading order of an item's plant dock.
 pub fn plant_dock_order(t: &[u32], limits: Limits, s: usize, n: u32) -> usize
     requires { ⌜ Filled limits (now t) × (s < length (stacksIn limits (now t))) × ItemNumber (instanceIn limits (now t)) n ⌝ }
-    ensures { λ r. ⌜ (r ≡ plantDockOrder (instanceIn limits (now (t .entry))) (stackAt (stacksIn limits (now (t .entry))) s) (item (instanceIn limits (now (t .entry))) n)) × (r ≤ 8) ⌝ }
+    ensures { λ r. ⌜ (r ≡ plantDockOrder (instanceIn limits (now (t .entry))) (stackAt (stacksIn limits (now (t .entry))) s) (item
+        (instanceIn limits (now (t .entry))) n)) × (r ≤ 8) ⌝ }
 {
     let list = plant_docks(t, limits, stack_truck(t, limits, s));
     order_in(list, item_field(t, limits, n, IG))
@@ -185,6 +189,7 @@ struct Span {
     highest: u32,
 }
 
+// No truck has more, so no loading order of a plant dock is above it.
 const MOST_PLANT_DOCKS: u32 = 8;
 
 // The span with one loading order more.

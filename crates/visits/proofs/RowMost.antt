@@ -18,7 +18,7 @@ use Rattle.table.specs.Filled.{Filled, stackAt}
 use Rattle.table.proofs.Access.{stack-in}
 use Rattle.table.proofs.Bounds.{stack-most}
 use Rattle.views.specs.Views.{spanOf, plantDockOrders}
-use Rattle.views.proofs.Bounds.{either-most, order-most, entry-most, carrier-in, footprint-bounds, weight-bound, orders-bound, supplier-order-bound}
+use Rattle.views.proofs.Bounds.{either-most, order-most, entry-most, stack-truck-in, footprint-bounds, weight-bound, orders-bound, supplier-order-bound}
 use Rattle.visits.specs.Visits.{rowOf, rowMost}
 
 -- ---- lists
@@ -70,7 +70,7 @@ module _ {m : Limits} {t : List ℕ} (h : Filled m t) (s : ℕ) (l : s < length 
   dock-order-most a =
       let P : List ℕ → Type 0 = λ l. length l ≤ 8 in
       let carrier = truckOf (instanceIn m t) (stackAt (stacksIn m t) s) in
-      let each : Every P ([] ∷ carrier .docks) = (omega arith, every-map (Meets docksLine) P (λ l e. e .most) (carrier .docks) (carrier-in h s l .docks)) in
+      let each : Every P ([] ∷ carrier .docks) = (omega arith, every-map (Meets docksLine) P (λ l e. e .most) (carrier .docks) (stack-truck-in h s l .docks)) in
       order-most 8 (docksOf carrier (IU a)) (IK a) (every-or P [] (omega arith) ([] ∷ carrier .docks) each (orderIn (carrier .suppliers) (IU a)))
 
   span-most : let span = spanOf (plantDockOrders (instanceIn m t) (stackAt (stacksIn m t) s)) in (span .lowest ≤ 8) × (span .highest ≤ 8)

@@ -11,9 +11,6 @@ use Rattle.axles.proofs.Levers.{lever-by-is}
 use Rattle.axles.proofs.lever_part.Statement.{statement}
 use Rattle.axles.proofs.lever_part.Tie as tie
 
-is-aboard-requires : tie.Need-is-aboard-requires
-is-aboard-requires c κs = search needs
-
 row-word-requires : tie.Need-row-word-requires
 row-word-requires c κs = search needs
 
@@ -26,18 +23,21 @@ row-word-requires-3 c κs = search needs
 lever-by-requires : tie.Need-lever-by-requires
 lever-by-requires c κs = search needs
 
+is-aboard-requires : tie.Need-is-aboard-requires
+is-aboard-requires c κs = search needs
+
 returns : tie.Need-returns
 returns c =
-    let third = c .before in
+    let l = c .before .before in
+    let third = l .before in
     let second = third .before in
     let first = second .before in
-    let on = first .before in
-    let start = on .before .before .before .before in
+    let start = first .before .before .before in
     let i = instanceIn (start .args .limits) (start .args .t .now) in
     let s = visitAt (stacksIn (start .args .limits) (start .args .t .now)) (start .args .k) in
-    let fits : SFits w64 (c .lever-by .result) = search needs in
-    rw (← on .before .is-aboard .ensures, on .if1 .taken)
-    (stored fits (c .lever-by .ensures ∙ lever-by-is i (truckNumbered i (start .args .truck)) s
+    let fits : SFits w64 (l .lever-by .result) = search needs in
+    rw (← c .before .is-aboard .ensures, c .if1 .taken)
+    (stored fits (l .lever-by .ensures ∙ lever-by-is i (truckNumbered i (start .args .truck)) s
     (first .row-word .ensures .0) (second .row-word2 .ensures .0) (third .row-word3 .ensures .0) (start .pre .2)))
 
 returns-2 : tie.Need-returns-2
@@ -47,10 +47,10 @@ pub lever-part-spec : {M : Type 1} → statement M
 lever-part-spec =
     tie.close
     (tie.spec
-    is-aboard-requires
     row-word-requires
     row-word-requires-2
     row-word-requires-3
     lever-by-requires
+    is-aboard-requires
     returns
     returns-2)

@@ -12,8 +12,8 @@ twice c = times (literal 2 tt) (unsigned (c .pre .1) tt) tt
 abbrev reach : tie.Start → Amount
 reach c = times (twice c) (unsigned (c .pre .5) tt) tt
 
-abbrev held : tie.Start → Amount
-held c = times (reach c) (unsigned (c .pre .6) tt) tt
+abbrev most : tie.Start → Amount
+most c = times (reach c) (unsigned (c .pre .6) tt) tt
 
 abbrev heavy : tie.Start → Amount
 heavy c = times (twice c) (unsigned (c .pre .2) tt) tt
@@ -33,17 +33,17 @@ cast-twice c = search needs
 mul-twice : tie.Need-mul-twice
 mul-twice c = twice c .fits
 
-cast-held : tie.Need-cast-held
-cast-held c = search needs
+cast-most : tie.Need-cast-most
+cast-most c = search needs
 
-mul-held : tie.Need-mul-held
-mul-held c = reach c .fits
+mul-most : tie.Need-mul-most
+mul-most c = reach c .fits
 
-cast-held-2 : tie.Need-cast-held-2
-cast-held-2 c = search needs
+cast-most-2 : tie.Need-cast-most-2
+cast-most-2 c = search needs
 
-mul-held-2 : tie.Need-mul-held-2
-mul-held-2 c = held c .fits
+mul-most-2 : tie.Need-mul-most-2
+mul-most-2 c = most c .fits
 
 cast-result : tie.Need-cast-result
 cast-result c = search needs
@@ -68,7 +68,7 @@ add-result c = both c .fits
 
 returns : tie.Need-returns
 unfolding middleHolds
-returns c = at-most (both c) (held c)
+returns c = at-most (both c) (most c)
 
 pub middle-holds-spec : {M : Type 1} → statement M
 middle-holds-spec =
@@ -76,10 +76,10 @@ middle-holds-spec =
     (tie.spec
     cast-twice
     mul-twice
-    cast-held
-    mul-held
-    cast-held-2
-    mul-held-2
+    cast-most
+    mul-most
+    cast-most-2
+    mul-most-2
     cast-result
     mul-result
     cast-result-2

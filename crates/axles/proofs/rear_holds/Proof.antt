@@ -9,8 +9,8 @@ use Rattle.axles.proofs.rear_holds.Tie as tie
 abbrev twice : tie.Start → Amount
 twice c = times (literal 2 tt) (unsigned (c .pre .1) tt) tt
 
-abbrev held : tie.Start → Amount
-held c = times (twice c) (unsigned (c .pre .4) tt) tt
+abbrev most : tie.Start → Amount
+most c = times (twice c) (unsigned (c .pre .4) tt) tt
 
 abbrev loaded : tie.Start → Amount
 loaded c = plus (unsigned (c .pre .2) tt) (unsigned (c .pre .3) tt) tt
@@ -27,11 +27,11 @@ cast-twice c = search needs
 mul-twice : tie.Need-mul-twice
 mul-twice c = twice c .fits
 
-cast-held : tie.Need-cast-held
-cast-held c = search needs
+cast-most : tie.Need-cast-most
+cast-most c = search needs
 
-mul-held : tie.Need-mul-held
-mul-held c = held c .fits
+mul-most : tie.Need-mul-most
+mul-most c = most c .fits
 
 cast-result : tie.Need-cast-result
 cast-result c = search needs
@@ -50,8 +50,8 @@ sub-result c = rest c .fits
 
 returns : tie.Need-returns
 unfolding rearHolds
-returns c = at-most (rest c) (held c)
+returns c = at-most (rest c) (most c)
 
 pub rear-holds-spec : {M : Type 1} → statement M
 rear-holds-spec =
-    tie.close (tie.spec cast-twice mul-twice cast-held mul-held cast-result cast-result-2 add-result mul-result sub-result returns)
+    tie.close (tie.spec cast-twice mul-twice cast-most mul-most cast-result cast-result-2 add-result mul-result sub-result returns)

@@ -16,8 +16,8 @@ Inv-loop t limits s arrival sum₀ j₀ sum j =
 abbrev μ-loop : tie.MeasureT-loop
 μ-loop t limits s arrival sum₀ j₀ sum j = j
 
-carrier-field-requires : tie.Need-carrier-field-requires Inv-loop μ-loop
-carrier-field-requires c κs = search needs
+stack-truck-field-requires : tie.Need-stack-truck-field-requires Inv-loop μ-loop
+stack-truck-field-requires c κs = search needs
 
 load-count-requires : tie.Need-load-count-requires Inv-loop μ-loop
 load-count-requires c κs = search needs
@@ -72,7 +72,7 @@ loop-again c =
     let days = c .before .days-early in
     let price = c .item-field2 in
     summed-more 0 (l .loop .inv) (entry .before .loop-test .taken)
-    (item-cost i a (entry .load-entry .ensures .0) (latest .ensures .0) (l .before .before .carrier-field .ensures .0) (days .ensures .0) (price .ensures .0))
+    (item-cost i a (entry .load-entry .ensures .0) (latest .ensures .0) (l .before .before .stack-truck-field .ensures .0) (days .ensures .0) (price .ensures .0))
     (item-bound (price .ensures .1) (days .ensures .1) (latest .ensures .1))
 
 returns : tie.Need-returns Inv-loop μ-loop
@@ -88,7 +88,7 @@ stack-inventory-spec =
     (tie.spec
     Inv-loop
     μ-loop
-    carrier-field-requires
+    stack-truck-field-requires
     load-count-requires
     loop-holds
     sub-j

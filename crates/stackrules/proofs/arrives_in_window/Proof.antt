@@ -3,8 +3,8 @@ use borrow.Author.Needs.{needs}
 use Rattle.stackrules.proofs.arrives_in_window.Statement.{statement}
 use Rattle.stackrules.proofs.arrives_in_window.Tie as tie
 
-carrier-field-requires : tie.Need-carrier-field-requires
-carrier-field-requires c κs = search needs
+stack-truck-field-requires : tie.Need-stack-truck-field-requires
+stack-truck-field-requires c κs = search needs
 
 item-field-requires : tie.Need-item-field-requires
 item-field-requires c κs = search needs
@@ -17,4 +17,4 @@ returns c = cc
 
 pub arrives-in-window-spec : {M : Type 1} → statement M
 arrives-in-window-spec =
-    tie.close (tie.spec carrier-field-requires item-field-requires item-field-requires-2 returns)
+    tie.close (tie.spec stack-truck-field-requires item-field-requires item-field-requires-2 returns)

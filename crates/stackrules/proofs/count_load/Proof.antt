@@ -37,8 +37,8 @@ sub-j c = search needs
 load-entry-requires : tie.Need-load-entry-requires Inv-loop μ-loop
 load-entry-requires c κs = search needs
 
-count-place-requires : tie.Need-count-place-requires Inv-loop μ-loop
-count-place-requires c κs = search needs
+count-index-requires : tie.Need-count-index-requires Inv-loop μ-loop
+count-index-requires c κs = search needs
 
 mul-times : tie.Need-mul-times Inv-loop μ-loop
 mul-times c = search needs
@@ -52,7 +52,7 @@ add-times c =
     let l = e .before .before in
     let b = l .before .before .before .before in
     let n = e .load-entry .ensures .1 .1 in
-    let few = count-most (b .args .s) (l .loop .j) _ _ (b .pre .0) (b .pre .1) (l .loop .inv .2) (c .before .count-place .ensures .0) n in
+    let few = count-most (b .args .s) (l .loop .j) _ _ (b .pre .0) (b .pre .1) (l .loop .inv .2) (c .before .count-index .ensures .0) n in
     omega (arith, few)
 
 mul-times-2 : tie.Need-mul-times-2 Inv-loop μ-loop
@@ -71,7 +71,7 @@ loop-again c =
     let a = l .before .before .before .before .args in
     let p = stacksIn (a .limits) (a .t .now) in
     let inv = l .loop .inv in
-    let at = c .before .count-place in
+    let at = c .before .count-index in
     let more = load-more (stackAt p (a .s)) (drop (a .s + 1) p) (at .result) (inv .2) (e .before .loop-test .taken) (inv .0)
     (e .load-entry .ensures .0) (e .load-entry .ensures .1 .1) (at .ensures .0)
     in
@@ -96,7 +96,7 @@ count-load-spec =
     loop-holds
     sub-j
     load-entry-requires
-    count-place-requires
+    count-index-requires
     mul-times
     slice-read-times
     add-times

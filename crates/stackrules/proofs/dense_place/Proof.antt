@@ -17,8 +17,8 @@ bottom-field-requires c κs = search needs
 bottom-field-requires-2 : tie.Need-bottom-field-requires-2
 bottom-field-requires-2 c κs = search needs
 
-carrier-field-requires : tie.Need-carrier-field-requires
-carrier-field-requires c κs = search needs
+stack-truck-field-requires : tie.Need-stack-truck-field-requires
+stack-truck-field-requires c κs = search needs
 
 density-kept-requires : tie.Need-density-kept-requires
 density-kept-requires c κs = search needs
@@ -42,7 +42,7 @@ returns c =
     let i = instanceIn (a .limits) (a .t .now) in
     let p = stacksIn (a .limits) (a .t .now) in
     dense-is i p _ _ (place .stack-at .ensures .0) _ (number .row-word2 .ensures .0) _ _ _ _ _ _ (weight .row-word .ensures .0)
-    (limit .carrier-field .ensures .0) (length .bottom-field .ensures .0) (width .bottom-field2 .ensures .0)
+    (limit .stack-truck-field .ensures .0) (length .bottom-field .ensures .0) (width .bottom-field2 .ensures .0)
     (kept .density-kept .ensures) (c .place-if .ensures)
 
 pub dense-place-spec : {M : Type 1} → statement M
@@ -53,7 +53,7 @@ dense-place-spec =
     row-word-requires
     bottom-field-requires
     bottom-field-requires-2
-    carrier-field-requires
+    stack-truck-field-requires
     density-kept-requires
     row-word-requires-2
     place-if-requires

@@ -12,8 +12,8 @@ row-word-requires c κs = search needs
 stack-at-requires : tie.Need-stack-at-requires
 stack-at-requires c κs = search needs
 
-carrier-field-requires : tie.Need-carrier-field-requires
-carrier-field-requires c κs = search needs
+stack-truck-field-requires : tie.Need-stack-truck-field-requires
+stack-truck-field-requires c κs = search needs
 
 row-word-requires-2 : tie.Need-row-word-requires-2
 row-word-requires-2 c κs = search needs
@@ -44,7 +44,7 @@ returns c =
     let p = stacksIn (a .limits) (a .t .now) in
     docks-is i p _ _ (place .stack-at .ensures .0) _ (number .row-word4 .ensures .0) _ _ _ _ _
     (orders-bound (start .pre .0 .filled) _ (place .stack-at .ensures .1))
-    (count .row-word .ensures .0) (flag .carrier-field .ensures .0) (lowest .row-word2 .ensures .0) (highest .row-word3 .ensures .0) (c .place-if .ensures)
+    (count .row-word .ensures .0) (flag .stack-truck-field .ensures .0) (lowest .row-word2 .ensures .0) (highest .row-word3 .ensures .0) (c .place-if .ensures)
 
 pub docks-place-spec : {M : Type 1} → statement M
 docks-place-spec =
@@ -52,7 +52,7 @@ docks-place-spec =
     (tie.spec
     row-word-requires
     stack-at-requires
-    carrier-field-requires
+    stack-truck-field-requires
     row-word-requires-2
     add-after
     row-word-requires-3

@@ -3,20 +3,20 @@ use borrow.Author.Needs.{needs}
 use Rattle.stackrules.proofs.is_stackable.Statement.{statement}
 use Rattle.stackrules.proofs.is_stackable.Tie as tie
 
-as-bottom-requires : tie.Need-as-bottom-requires
-as-bottom-requires c κs = search needs
+matches-bottom-requires : tie.Need-matches-bottom-requires
+matches-bottom-requires c κs = search needs
 
-as-bottom-requires-2 : tie.Need-as-bottom-requires-2
-as-bottom-requires-2 c κs = search needs
+matches-bottom-requires-2 : tie.Need-matches-bottom-requires-2
+matches-bottom-requires-2 c κs = search needs
 
-as-bottom-requires-3 : tie.Need-as-bottom-requires-3
-as-bottom-requires-3 c κs = search needs
+matches-bottom-requires-3 : tie.Need-matches-bottom-requires-3
+matches-bottom-requires-3 c κs = search needs
 
-as-bottom-requires-4 : tie.Need-as-bottom-requires-4
-as-bottom-requires-4 c κs = search needs
+matches-bottom-requires-4 : tie.Need-matches-bottom-requires-4
+matches-bottom-requires-4 c κs = search needs
 
-as-bottom-requires-5 : tie.Need-as-bottom-requires-5
-as-bottom-requires-5 c κs = search needs
+matches-bottom-requires-5 : tie.Need-matches-bottom-requires-5
+matches-bottom-requires-5 c κs = search needs
 
 returns : tie.Need-returns
 returns c = cc
@@ -25,9 +25,9 @@ pub is-stackable-spec : {M : Type 1} → statement M
 is-stackable-spec =
     tie.close
     (tie.spec
-    as-bottom-requires
-    as-bottom-requires-2
-    as-bottom-requires-3
-    as-bottom-requires-4
-    as-bottom-requires-5
+    matches-bottom-requires
+    matches-bottom-requires-2
+    matches-bottom-requires-3
+    matches-bottom-requires-4
+    matches-bottom-requires-5
     returns)

@@ -20,8 +20,8 @@ item-count-requires c κs = search needs
 loop-holds : tie.Need-loop-holds Inv-loop μ-loop
 loop-holds c = above-none
 
-count-place-requires : tie.Need-count-place-requires Inv-loop μ-loop
-count-place-requires c κs = search needs
+count-index-requires : tie.Need-count-index-requires Inv-loop μ-loop
+count-index-requires c κs = search needs
 
 mul-count : tie.Need-mul-count Inv-loop μ-loop
 mul-count c = search needs
@@ -46,7 +46,7 @@ loop-again c =
     let b = c .before in
     let at = b .before .before in
     let l = at .before .before in
-    let place = at .count-place in
+    let place = at .count-index in
     above-more (place .result) (l .loop .inv) (at .before .loop-test .taken) (place .ensures .0) (b .place-if .ensures) (c .lower-of .ensures)
 
 same-length : tie.Need-same-length Inv-loop μ-loop
@@ -70,7 +70,7 @@ lowest-not-once-spec =
     count-items-requires
     item-count-requires
     loop-holds
-    count-place-requires
+    count-index-requires
     mul-count
     slice-read-count
     place-if-requires

@@ -11,17 +11,17 @@ stack-at-requires c κs = search needs
 footprint-at-requires : tie.Need-footprint-at-requires
 footprint-at-requires c κs = search needs
 
-read-bulk-requires : tie.Need-read-bulk-requires
-read-bulk-requires c κs = search needs
+read-size-requires : tie.Need-read-size-requires
+read-size-requires c κs = search needs
 
-carrier-field-requires : tie.Need-carrier-field-requires
-carrier-field-requires c κs = search needs
+stack-truck-field-requires : tie.Need-stack-truck-field-requires
+stack-truck-field-requires c κs = search needs
 
-carrier-field-requires-2 : tie.Need-carrier-field-requires-2
-carrier-field-requires-2 c κs = search needs
+stack-truck-field-requires-2 : tie.Need-stack-truck-field-requires-2
+stack-truck-field-requires-2 c κs = search needs
 
-carrier-field-requires-3 : tie.Need-carrier-field-requires-3
-carrier-field-requires-3 c κs = search needs
+stack-truck-field-requires-3 : tie.Need-stack-truck-field-requires-3
+stack-truck-field-requires-3 c κs = search needs
 
 row-word-requires : tie.Need-row-word-requires
 row-word-requires c κs = search needs
@@ -39,14 +39,14 @@ returns c =
     let height = number .before .before in
     let width = height .before .before in
     let length = width .before .before in
-    let bulk = length .before in
-    let ground = bulk .before in
+    let size = length .before in
+    let ground = size .before in
     let place = ground .before in
     let a = place .before .before .before .args in
     let i = instanceIn (a .limits) (a .t .now) in
     let p = stacksIn (a .limits) (a .t .now) in
-    outside-is i p _ _ (place .stack-at .ensures .0) _ (number .row-word .ensures .0) _ _ _ _ _ _ _ (ground .footprint-at .ensures) (bulk .read-bulk .ensures)
-    (length .carrier-field .ensures .0) (width .carrier-field2 .ensures .0) (height .carrier-field3 .ensures .0) (side .exceeded-side .ensures)
+    outside-is i p _ _ (place .stack-at .ensures .0) _ (number .row-word .ensures .0) _ _ _ _ _ _ _ (ground .footprint-at .ensures) (size .read-size .ensures)
+    (length .stack-truck-field .ensures .0) (width .stack-truck-field2 .ensures .0) (height .stack-truck-field3 .ensures .0) (side .exceeded-side .ensures)
     (c .place-if .ensures)
 
 pub outside-place-spec : {M : Type 1} → statement M
@@ -55,10 +55,10 @@ outside-place-spec =
     (tie.spec
     stack-at-requires
     footprint-at-requires
-    read-bulk-requires
-    carrier-field-requires
-    carrier-field-requires-2
-    carrier-field-requires-3
+    read-size-requires
+    stack-truck-field-requires
+    stack-truck-field-requires-2
+    stack-truck-field-requires-3
     row-word-requires
     exceeded-side-requires
     place-if-requires

@@ -11,8 +11,8 @@ stack-at-requires c κs = search needs
 load-sum-requires : tie.Need-load-sum-requires
 load-sum-requires c κs = search needs
 
-carrier-field-requires : tie.Need-carrier-field-requires
-carrier-field-requires c κs = search needs
+stack-truck-field-requires : tie.Need-stack-truck-field-requires
+stack-truck-field-requires c κs = search needs
 
 row-word-requires : tie.Need-row-word-requires
 row-word-requires c κs = search needs
@@ -29,7 +29,7 @@ returns c =
     let i = instanceIn (a .limits) (a .t .now) in
     let p = stacksIn (a .limits) (a .t .now) in
     top-heavy-is i p _ _ (place .stack-at .ensures .0) _ (c .before .row-word .ensures .0) _ _ _ (read .before .load-sum .ensures .0)
-    (read .carrier-field .ensures .0) (c .place-if .ensures)
+    (read .stack-truck-field .ensures .0) (c .place-if .ensures)
 
 pub top-heavy-place-spec : {M : Type 1} → statement M
 top-heavy-place-spec =
@@ -37,7 +37,7 @@ top-heavy-place-spec =
     (tie.spec
     stack-at-requires
     load-sum-requires
-    carrier-field-requires
+    stack-truck-field-requires
     row-word-requires
     place-if-requires
     returns)

@@ -1,10 +1,10 @@
--- `views::carrier_field`: the field of the truck whose number the stack has.
+-- `views::stack_truck_field`: the field of the truck whose number the stack has.
 use borrow.Author.Needs.{needs}
 use Rattle.meaning.specs.Table.{instanceIn, stacksIn}
 use Rattle.table.specs.Filled.{stackAt}
 use Rattle.views.proofs.Stacks.{carrier-is}
-use Rattle.views.proofs.carrier_field.Statement.{statement}
-use Rattle.views.proofs.carrier_field.Tie as tie
+use Rattle.views.proofs.stack_truck_field.Statement.{statement}
+use Rattle.views.proofs.stack_truck_field.Tie as tie
 
 stack-truck-requires : tie.Need-stack-truck-requires
 stack-truck-requires c κs = search needs
@@ -19,5 +19,5 @@ returns c =
     let stack = stackAt (stacksIn (a .limits) (a .t .now)) (a .s) in
     (carrier-is i stack (a .field) (c .before .stack-truck .ensures .0) (c .truck-field .ensures .0), c .truck-field .ensures .1)
 
-pub carrier-field-spec : {M : Type 1} → statement M
-carrier-field-spec = tie.close (tie.spec stack-truck-requires truck-field-requires returns)
+pub stack-truck-field-spec : {M : Type 1} → statement M
+stack-truck-field-spec = tie.close (tie.spec stack-truck-requires truck-field-requires returns)

@@ -1,12 +1,12 @@
--- `views::read_bulk`: the height is a difference of two sums, and no item nests deeper than it is high.
+-- `views::read_size`: the height is a difference of two sums, and no item nests deeper than it is high.
 use borrow.Author.Needs.{needs}
 use Rattle.meaning.specs.Table.{instanceIn, stacksIn}
 use Rattle.meaning.proofs.Lists.{at-in}
 use Rattle.meaning.proofs.Sound.{in-range-sound}
 use Rattle.table.specs.Filled.{noStack, stackAt}
-use Rattle.views.proofs.Stacks.{nested-less, bulk-is}
-use Rattle.views.proofs.read_bulk.Statement.{statement}
-use Rattle.views.proofs.read_bulk.Tie as tie
+use Rattle.views.proofs.Stacks.{nested-less, size-is}
+use Rattle.views.proofs.read_size.Statement.{statement}
+use Rattle.views.proofs.read_size.Tie as tie
 
 load-sum-requires : tie.Need-load-sum-requires
 load-sum-requires c κs = search needs
@@ -34,8 +34,8 @@ returns c =
     let a = weight .before .before .args in
     let i = instanceIn (a .limits) (a .t .now) in
     let stack = stackAt (stacksIn (a .limits) (a .t .now)) (a .s) in
-    bulk-is i stack (heights .load-sum2 .ensures .0) (c .load-sum3 .ensures .0) (weight .load-sum .ensures .0)
+    size-is i stack (heights .load-sum2 .ensures .0) (c .load-sum3 .ensures .0) (weight .load-sum .ensures .0)
 
-pub read-bulk-spec : {M : Type 1} → statement M
-read-bulk-spec =
+pub read-size-spec : {M : Type 1} → statement M
+read-size-spec =
     tie.close (tie.spec load-sum-requires load-sum-requires-2 load-sum-requires-3 sub-t7 returns)
