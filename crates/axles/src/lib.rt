@@ -44,7 +44,8 @@ const MOST_SUPPLIERS: u32 = 8;
 // Whether the supplier of a visited stack has a loading order from `first` to `last`.
 fn is_aboard(t: &[u32], limits: Limits, rows: &[u32], k: usize, first: u32, last: u32) -> bool
     requires { ⌜ HoldsRows limits (now t) (now rows) × (k < length (stacksIn limits (now t))) ⌝ }
-    ensures { λ r. ⌜ r ≡ between first last (supplierOrder (instanceIn limits (now (t .entry))) (visitAt (stacksIn limits (now (t .entry))) k)) ⌝ }
+    ensures { λ r. ⌜ r ≡ between first last (supplierOrder (instanceIn limits (now (t .entry)))
+        (visitAt (stacksIn limits (now (t .entry))) k)) ⌝ }
 {
     let order = row_word(t, limits, rows, k, row::SUPPLIER_ORDER);
     (first <= order) & (order <= last)
@@ -60,7 +61,8 @@ fn departure_counts(
     departure: u32,
 ) -> bool
     requires { ⌜ HoldsRows limits (now t) (now rows) × (start ≤ end) × (end ≤ length (stacksIn limits (now t))) ⌝ }
-    ensures { λ r. ⌜ r ≡ counts (aboard (instanceIn limits (now (t .entry))) (block (stacksIn limits (now (t .entry))) start end) 1 departure) ⌝ }
+    ensures { λ r. ⌜ r ≡ counts (aboard (instanceIn limits (now (t .entry))) (block (stacksIn limits (now (t .entry))) start end) 1
+        departure) ⌝ }
 {
     let mut k = start;
     while k < end {
@@ -75,8 +77,8 @@ fn departure_counts(
 // What a visited stack adds to the weight of those from supplier `first` to `last`.
 fn weight_part(t: &[u32], limits: Limits, rows: &[u32], k: usize, first: u32, last: u32) -> u64
     requires { ⌜ HoldsRows limits (now t) (now rows) × (k < length (stacksIn limits (now t))) ⌝ }
-    ensures { λ r. ⌜ (r ≡ cond (between first last (supplierOrder (instanceIn limits (now (t .entry))) (visitAt (stacksIn limits (now
-        (t .entry))) k)))
+    ensures { λ r. ⌜ (r ≡ cond (between first last
+        (supplierOrder (instanceIn limits (now (t .entry))) (visitAt (stacksIn limits (now (t .entry))) k)))
         (sm (instanceIn limits (now (t .entry))) (visitAt (stacksIn limits (now (t .entry))) k)) 0) × (r ≤ 3200000) ⌝ }
 {
     let weight = row_word(t, limits, rows, k, row::WEIGHT);
@@ -97,9 +99,8 @@ fn weight_aboard(
     last: u32,
 ) -> u64
     requires { ⌜ HoldsRows limits (now t) (now rows) × (start ≤ end) × (end ≤ length (stacksIn limits (now t))) ⌝ }
-    ensures { λ r. ⌜ (r ≡ weightOn (instanceIn limits (now (t .entry))) (aboard (instanceIn limits (now (t .entry))) (block (stacksIn limits
-        (now (t .entry))) start end) first last))
-        × (r ≤ 3276800000) ⌝ }
+    ensures { λ r. ⌜ (r ≡ weightOn (instanceIn limits (now (t .entry)))
+        (aboard (instanceIn limits (now (t .entry))) (block (stacksIn limits (now (t .entry))) start end) first last)) × (r ≤ 3276800000) ⌝ }
 {
     let mut sum: u64 = 0;
     let mut k = end;
@@ -140,9 +141,10 @@ fn lever_part(
 ) -> i64
     requires { ⌜ HoldsRows limits (now t) (now rows) × (k < length (stacksIn limits (now t)))
         × (twice ≡ twiceA (truckNumbered (instanceIn limits (now t)) truck)) × (twice ≤ 80000) ⌝ }
-    ensures { λ r. ⌜ r ≡ cond (between 1 departure (supplierOrder (instanceIn limits (now (t .entry))) (visitAt (stacksIn limits (now
-        (t .entry))) k)))
-        (lever (instanceIn limits (now (t .entry))) (truckNumbered (instanceIn limits (now (t .entry))) truck) (visitAt (stacksIn limits (now (t .entry))) k)) (pos 0) ⌝ }
+    ensures { λ r. ⌜ r ≡ cond (between 1 departure
+        (supplierOrder (instanceIn limits (now (t .entry))) (visitAt (stacksIn limits (now (t .entry))) k)))
+        (lever (instanceIn limits (now (t .entry))) (truckNumbered (instanceIn limits (now (t .entry))) truck)
+        (visitAt (stacksIn limits (now (t .entry))) k)) (pos 0) ⌝ }
 {
     let weight = row_word(t, limits, rows, k, row::WEIGHT);
     let x = row_word(t, limits, rows, k, row::X);
@@ -190,8 +192,8 @@ fn moment(
 ) -> i64
     requires { ⌜ HoldsRows limits (now t) (now rows) × (start ≤ end) × (end ≤ length (stacksIn limits (now t)))
         × TruckNumber (instanceIn limits (now t)) truck ⌝ }
-    ensures is { λ r. ⌜ r ≡ momentOf (instanceIn limits (now (t .entry))) (truckNumbered (instanceIn limits (now (t .entry))) truck) (aboard
-        (instanceIn limits (now (t .entry))) (block (stacksIn limits (now (t .entry))) start end) 1 departure) ⌝ }
+    ensures is { λ r. ⌜ r ≡ momentOf (instanceIn limits (now (t .entry))) (truckNumbered (instanceIn limits (now (t .entry))) truck)
+        (aboard (instanceIn limits (now (t .entry))) (block (stacksIn limits (now (t .entry))) start end) 1 departure) ⌝ }
     ensures moderate { λ r. ⌜ Moderate r ⌝ }
 {
     let levers = levers_aboard(t, limits, rows, start, end, departure, truck);
@@ -315,8 +317,8 @@ pub fn lowest_departure(
     end: usize,
 ) -> Found
     requires { ⌜ HoldsRows limits (now t) (now rows) × OneTruck (stacksIn limits (now t)) start end ⌝ }
-    ensures { λ r. ⌜ r ≡ lowestIn (departurePlaces (axleTest axle) (instanceIn limits (now (t .entry))) (block (stacksIn limits (now
-        (t .entry))) start end)) ⌝ }
+    ensures { λ r. ⌜ r ≡ lowestIn (departurePlaces (axleTest axle) (instanceIn limits (now (t .entry)))
+        (block (stacksIn limits (now (t .entry))) start end)) ⌝ }
 {
     let truck = truck_at(t, limits, rows, start);
     let copy = row_word(t, limits, rows, start, row::COPY);
@@ -335,8 +337,8 @@ pub fn lowest_departure(
 // 26 overload, W1: the stacks of a used truck weigh no more than its load limit. All its stacks are summed, whatever their supplier.
 pub fn overload_place(t: &[u32], limits: Limits, rows: &[u32], start: usize, end: usize) -> Found
     requires { ⌜ HoldsRows limits (now t) (now rows) × OneTruck (stacksIn limits (now t)) start end ⌝ }
-    ensures { λ r. ⌜ r ≡ lowestIn (truckPlaces withinLoadLimit (instanceIn limits (now (t .entry))) (block (stacksIn limits (now
-        (t .entry))) start end)) ⌝ }
+    ensures { λ r. ⌜ r ≡ lowestIn (truckPlaces withinLoadLimit (instanceIn limits (now (t .entry)))
+        (block (stacksIn limits (now (t .entry))) start end)) ⌝ }
 {
     let truck = truck_at(t, limits, rows, start);
     let weight = weight_aboard(t, limits, rows, start, end, 0, MOST_SUPPLIERS);

@@ -65,7 +65,8 @@ fn truck_place(
     end: usize,
 ) -> Found
     requires { ⌜ HoldsRows limits (now t) (now rows) × OneTruck (stacksIn limits (now t)) start end ⌝ }
-    ensures { λ r. ⌜ r ≡ lowestIn (truckRulePlaces rule (instanceIn limits (now (t .entry))) (block (stacksIn limits (now (t .entry))) start end)) ⌝ }
+    ensures { λ r. ⌜ r ≡ lowestIn (truckRulePlaces rule (instanceIn limits (now (t .entry)))
+        (block (stacksIn limits (now (t .entry))) start end)) ⌝ }
 {
     match rule {
         TruckRule::EachPair(each) => first_pair(each, t, limits, rows, start, end),
@@ -123,7 +124,8 @@ fn stack_inventory(t: &[u32], limits: Limits, s: usize) -> u64
 // The inventory cost of all stacks.
 fn inventory_sum(t: &[u32], limits: Limits) -> u64
     requires { ⌜ Filled limits (now t) ⌝ }
-    ensures { λ r. ⌜ (r ≡ sum (inventoryCost (instanceIn limits (now (t .entry)))) (stacksIn limits (now (t .entry)))) × (r ≤ 2614886400000) ⌝ }
+    ensures { λ r. ⌜ (r ≡ sum (inventoryCost (instanceIn limits (now (t .entry)))) (stacksIn limits (now (t .entry))))
+        × (r ≤ 2614886400000) ⌝ }
 {
     let mut sum: u64 = 0;
     let mut s = stack_count(t, limits);
@@ -184,8 +186,8 @@ fn sum_trucks(t: &[u32], limits: Limits, rows: &[u32]) -> UsedTrucks
 // The answer on a plan that keeps every rule.
 fn accept(t: &[u32], limits: Limits, rows: &[u32]) -> Answer
     requires { ⌜ HoldsRows limits (now t) (now rows) ⌝ }
-    ensures { λ r. ⌜ r ≡ acceptance (cost (instanceIn limits (now (t .entry))) (stacksIn limits (now (t .entry)))) (length (usedTrucks
-        (stacksIn limits (now (t .entry))))) ⌝ }
+    ensures { λ r. ⌜ r ≡ acceptance (cost (instanceIn limits (now (t .entry))) (stacksIn limits (now (t .entry))))
+        (length (usedTrucks (stacksIn limits (now (t .entry))))) ⌝ }
 {
     let used = sum_trucks(t, limits, rows);
     let inventory = inventory_sum(t, limits);
@@ -266,7 +268,8 @@ fn refuse(verdict: u32, place: Place) -> Answer
 fn judge_visited(t: &[u32], limits: Limits, rows: &[u32]) -> Answer
     requires { ⌜ HoldsRows limits (now t) (now rows) ⌝ }
     ensures { λ r. ⌜ r ≡ firstBroken (drop 1 rules) (instanceIn limits (now (t .entry))) (stacksIn limits (now (t .entry)))
-        (acceptance (cost (instanceIn limits (now (t .entry))) (stacksIn limits (now (t .entry)))) (length (usedTrucks (stacksIn limits (now (t .entry)))))) ⌝ }
+        (acceptance (cost (instanceIn limits (now (t .entry))) (stacksIn limits (now (t .entry))))
+        (length (usedTrucks (stacksIn limits (now (t .entry)))))) ⌝ }
 {
     let mut verdict: u32 = 10;
     while verdict <= 28 {
@@ -291,8 +294,8 @@ pub fn judge(
     rows: &mut [u32],
 ) -> Answer
     requires { ⌜ Filled limits (now t) × (length (instanceIn limits (now t) .items) ≤ length (now times))
-        × (length (stacksIn limits (now t)) ≤ length (now keys))
-        × (length (stacksIn limits (now t)) ≤ length (now order)) × (16 * length (stacksIn limits (now t)) ≤ length (now rows)) ⌝ }
+        × (length (stacksIn limits (now t)) ≤ length (now keys)) × (length (stacksIn limits (now t)) ≤ length (now order))
+        × (16 * length (stacksIn limits (now t)) ≤ length (now rows)) ⌝ }
     ensures { λ r. ⌜ r ≡ verdictOn (instanceIn limits (now (t .entry))) (stacksIn limits (now (t .entry))) ⌝ }
 {
     let found = lowest_not_once(t, limits, times);

@@ -33,8 +33,8 @@ pub enum PairRule {
 // 17 second pair, S3: two stacks of one code do not both have two plant docks. Codes are read for two-dock stacks only.
 fn is_single_pair(t: &[u32], limits: Limits, rows: &[u32], a: usize, b: usize) -> bool
     requires { ⌜ HoldsRows limits (now t) (now rows) × (a < length (stacksIn limits (now t))) × (b < length (stacksIn limits (now t))) ⌝ }
-    ensures { λ r. ⌜ r ≡ singlePair (instanceIn limits (now (t .entry))) (visitAt (stacksIn limits (now (t .entry))) a) (visitAt
-        (stacksIn limits (now (t .entry))) b) ⌝ }
+    ensures { λ r. ⌜ r ≡ singlePair (instanceIn limits (now (t .entry))) (visitAt (stacksIn limits (now (t .entry))) a)
+        (visitAt (stacksIn limits (now (t .entry))) b) ⌝ }
 {
     if row_word(t, limits, rows, a, row::PLANT_DOCKS) != 2 {
         return true;
@@ -68,8 +68,8 @@ fn loads_before(a: Rank, b: Rank) -> bool
 // 25 order, P4. The cheap comparison comes first: ranks are compared only where the first stack stands behind the second.
 fn in_loading_order(t: &[u32], limits: Limits, rows: &[u32], a: usize, b: usize) -> bool
     requires { ⌜ HoldsRows limits (now t) (now rows) × (a < length (stacksIn limits (now t))) × (b < length (stacksIn limits (now t))) ⌝ }
-    ensures { λ r. ⌜ r ≡ inLoadingOrder (instanceIn limits (now (t .entry))) (visitAt (stacksIn limits (now (t .entry))) a) (visitAt
-        (stacksIn limits (now (t .entry))) b) ⌝ }
+    ensures { λ r. ⌜ r ≡ inLoadingOrder (instanceIn limits (now (t .entry))) (visitAt (stacksIn limits (now (t .entry))) a)
+        (visitAt (stacksIn limits (now (t .entry))) b) ⌝ }
 {
     if row_word(t, limits, rows, a, row::X) <= row_word(t, limits, rows, b, row::X) {
         return true;
@@ -80,8 +80,8 @@ fn in_loading_order(t: &[u32], limits: Limits, rows: &[u32], a: usize, b: usize)
 // Whether two visited stacks keep a rule.
 fn pair_kept(rule: PairRule, t: &[u32], limits: Limits, rows: &[u32], a: usize, b: usize) -> bool
     requires { ⌜ HoldsRows limits (now t) (now rows) × (a < length (stacksIn limits (now t))) × (b < length (stacksIn limits (now t))) ⌝ }
-    ensures { λ r. ⌜ r ≡ pairTest rule (instanceIn limits (now (t .entry))) (visitAt (stacksIn limits (now (t .entry))) a) (visitAt
-        (stacksIn limits (now (t .entry))) b) ⌝ }
+    ensures { λ r. ⌜ r ≡ pairTest rule (instanceIn limits (now (t .entry))) (visitAt (stacksIn limits (now (t .entry))) a)
+        (visitAt (stacksIn limits (now (t .entry))) b) ⌝ }
 {
     match rule {
         PairRule::SecondPair => is_single_pair(t, limits, rows, a, b),
@@ -119,8 +119,8 @@ pub fn first_pair(
     end: usize,
 ) -> Found
     requires { ⌜ HoldsRows limits (now t) (now rows) × OneTruck (stacksIn limits (now t)) start end ⌝ }
-    ensures { λ r. ⌜ r ≡ lowestIn (pairPlaces (pairTest rule) (instanceIn limits (now (t .entry))) (block (stacksIn limits (now
-        (t .entry))) start end)) ⌝ }
+    ensures { λ r. ⌜ r ≡ lowestIn (pairPlaces (pairTest rule) (instanceIn limits (now (t .entry)))
+        (block (stacksIn limits (now (t .entry))) start end)) ⌝ }
 {
     let mut found = Found::Nothing;
     let mut a = start;
@@ -152,8 +152,8 @@ fn braces(a: Footprint, b: Footprint) -> bool
 // Whether the stack at place k stands at the front wall or is held by another one.
 fn is_braced(t: &[u32], limits: Limits, rows: &[u32], start: usize, end: usize, k: usize) -> bool
     requires { ⌜ HoldsRows limits (now t) (now rows) × OneTruck (stacksIn limits (now t)) start end × (start ≤ k) × (k < end) ⌝ }
-    ensures { λ r. ⌜ r ≡ braced (instanceIn limits (now (t .entry))) (block (stacksIn limits (now (t .entry))) start end) (visitAt
-        (stacksIn limits (now (t .entry))) k) ⌝ }
+    ensures { λ r. ⌜ r ≡ braced (instanceIn limits (now (t .entry))) (block (stacksIn limits (now (t .entry))) start end)
+        (visitAt (stacksIn limits (now (t .entry))) k) ⌝ }
 {
     let ground = footprint_at(t, limits, rows, k);
     if ground.x == 0 {
@@ -173,8 +173,8 @@ fn is_braced(t: &[u32], limits: Limits, rows: &[u32], start: usize, end: usize, 
 // 24 unbraced, P3: the stack with the lowest number that is not held.
 pub fn first_unbraced(t: &[u32], limits: Limits, rows: &[u32], start: usize, end: usize) -> Found
     requires { ⌜ HoldsRows limits (now t) (now rows) × OneTruck (stacksIn limits (now t)) start end ⌝ }
-    ensures { λ r. ⌜ r ≡ lowestIn (stackPlaces braced noAmount (instanceIn limits (now (t .entry))) (block (stacksIn limits (now
-        (t .entry))) start end)) ⌝ }
+    ensures { λ r. ⌜ r ≡ lowestIn (stackPlaces braced noAmount (instanceIn limits (now (t .entry)))
+        (block (stacksIn limits (now (t .entry))) start end)) ⌝ }
 {
     let mut a = start;
     while a < end {

@@ -75,7 +75,8 @@ fn count_index(n: u32) -> usize
 fn count_load(t: &[u32], limits: Limits, s: usize, times: &mut [u32])
     requires { ⌜ Filled limits (now t) × (s < length (stacksIn limits (now t)))
         × Tally (length (instanceIn limits (now t) .items)) (drop (s + 1) (stacksIn limits (now t))) (now times) ⌝ }
-    ensures { λ _. ⌜ Tally (length (instanceIn limits (now (t .entry)) .items)) (drop s (stacksIn limits (now (t .entry)))) (now (times .exit)) ⌝ }
+    ensures { λ _. ⌜ Tally (length (instanceIn limits (now (t .entry)) .items)) (drop s (stacksIn limits (now (t .entry))))
+        (now (times .exit)) ⌝ }
 {
     let mut j = load_count(t, limits, s);
     while 0 < j {
@@ -130,8 +131,8 @@ pub enum ItemRule {
 // 10 plant, I2: the truck goes to the item's plant.
 fn plant_matches(t: &[u32], limits: Limits, s: usize, n: u32) -> bool
     requires { ⌜ Filled limits (now t) × (s < length (stacksIn limits (now t))) × ItemNumber (instanceIn limits (now t)) n ⌝ }
-    ensures { λ r. ⌜ r ≡ plantMatches (instanceIn limits (now (t .entry))) (stackAt (stacksIn limits (now (t .entry))) s) (item
-        (instanceIn limits (now (t .entry))) n) ⌝ }
+    ensures { λ r. ⌜ r ≡ plantMatches (instanceIn limits (now (t .entry))) (stackAt (stacksIn limits (now (t .entry))) s)
+        (item (instanceIn limits (now (t .entry))) n) ⌝ }
 {
     item_field(t, limits, n, IP) == stack_truck_field(t, limits, s, TP)
 }
@@ -139,8 +140,8 @@ fn plant_matches(t: &[u32], limits: Limits, s: usize, n: u32) -> bool
 // 11 product, I3: the truck takes the item's product.
 fn product_carried(t: &[u32], limits: Limits, s: usize, n: u32) -> bool
     requires { ⌜ Filled limits (now t) × (s < length (stacksIn limits (now t))) × ItemNumber (instanceIn limits (now t)) n ⌝ }
-    ensures { λ r. ⌜ r ≡ productCarried (instanceIn limits (now (t .entry))) (stackAt (stacksIn limits (now (t .entry))) s) (item
-        (instanceIn limits (now (t .entry))) n) ⌝ }
+    ensures { λ r. ⌜ r ≡ productCarried (instanceIn limits (now (t .entry))) (stackAt (stacksIn limits (now (t .entry))) s)
+        (item (instanceIn limits (now (t .entry))) n) ⌝ }
 {
     let list = products(t, limits, stack_truck(t, limits, s));
     1 <= order_in(list, item_field(t, limits, n, IR))
@@ -149,8 +150,8 @@ fn product_carried(t: &[u32], limits: Limits, s: usize, n: u32) -> bool
 // 12 supplier, I4: the truck stops at the item's supplier.
 fn supplier_visited(t: &[u32], limits: Limits, s: usize, n: u32) -> bool
     requires { ⌜ Filled limits (now t) × (s < length (stacksIn limits (now t))) × ItemNumber (instanceIn limits (now t)) n ⌝ }
-    ensures { λ r. ⌜ r ≡ supplierVisited (instanceIn limits (now (t .entry))) (stackAt (stacksIn limits (now (t .entry))) s) (item
-        (instanceIn limits (now (t .entry))) n) ⌝ }
+    ensures { λ r. ⌜ r ≡ supplierVisited (instanceIn limits (now (t .entry))) (stackAt (stacksIn limits (now (t .entry))) s)
+        (item (instanceIn limits (now (t .entry))) n) ⌝ }
 {
     1 <= supplier_order(t, limits, s, item_field(t, limits, n, IU))
 }
@@ -158,8 +159,8 @@ fn supplier_visited(t: &[u32], limits: Limits, s: usize, n: u32) -> bool
 // 13 day, I5: the truck arrives within the item's days.
 fn arrives_in_window(t: &[u32], limits: Limits, s: usize, n: u32) -> bool
     requires { ⌜ Filled limits (now t) × (s < length (stacksIn limits (now t))) × ItemNumber (instanceIn limits (now t)) n ⌝ }
-    ensures { λ r. ⌜ r ≡ arrivesInWindow (instanceIn limits (now (t .entry))) (stackAt (stacksIn limits (now (t .entry))) s) (item
-        (instanceIn limits (now (t .entry))) n) ⌝ }
+    ensures { λ r. ⌜ r ≡ arrivesInWindow (instanceIn limits (now (t .entry))) (stackAt (stacksIn limits (now (t .entry))) s)
+        (item (instanceIn limits (now (t .entry))) n) ⌝ }
 {
     let day = stack_truck_field(t, limits, s, TDA);
     (item_field(t, limits, n, IDE) <= day) & (day <= item_field(t, limits, n, IDL))
@@ -168,8 +169,8 @@ fn arrives_in_window(t: &[u32], limits: Limits, s: usize, n: u32) -> bool
 // 14 dock: both docks of the item are listed.
 fn docks_served(t: &[u32], limits: Limits, s: usize, n: u32) -> bool
     requires { ⌜ Filled limits (now t) × (s < length (stacksIn limits (now t))) × ItemNumber (instanceIn limits (now t)) n ⌝ }
-    ensures { λ r. ⌜ r ≡ docksServed (instanceIn limits (now (t .entry))) (stackAt (stacksIn limits (now (t .entry))) s) (item
-        (instanceIn limits (now (t .entry))) n) ⌝ }
+    ensures { λ r. ⌜ r ≡ docksServed (instanceIn limits (now (t .entry))) (stackAt (stacksIn limits (now (t .entry))) s)
+        (item (instanceIn limits (now (t .entry))) n) ⌝ }
 {
     (1 <= supplier_dock_order(t, limits, s, n)) & (1 <= plant_dock_order(t, limits, s, n))
 }
@@ -177,8 +178,8 @@ fn docks_served(t: &[u32], limits: Limits, s: usize, n: u32) -> bool
 // Whether an item has the bottom item's value in a field.
 fn matches_bottom(t: &[u32], limits: Limits, s: usize, n: u32, field: usize) -> bool
     requires { ⌜ Filled limits (now t) × (s < length (stacksIn limits (now t))) × ItemNumber (instanceIn limits (now t)) n × (field < 16) ⌝ }
-    ensures { λ r. ⌜ r ≡ eqb (getD (item (instanceIn limits (now (t .entry))) n) field 0) (getD (bottom (instanceIn limits (now (t .entry)))
-        (stackAt (stacksIn limits (now (t .entry))) s)) field 0) ⌝ }
+    ensures { λ r. ⌜ r ≡ eqb (getD (item (instanceIn limits (now (t .entry))) n) field 0)
+        (getD (bottom (instanceIn limits (now (t .entry))) (stackAt (stacksIn limits (now (t .entry))) s)) field 0) ⌝ }
 {
     item_field(t, limits, n, field) == bottom_field(t, limits, s, field)
 }
@@ -186,8 +187,8 @@ fn matches_bottom(t: &[u32], limits: Limits, s: usize, n: u32, field: usize) -> 
 // 15 mixed, S1: supplier, plant, code, maximal stackability and supplier dock are the bottom item's.
 fn is_stackable(t: &[u32], limits: Limits, s: usize, n: u32) -> bool
     requires { ⌜ Filled limits (now t) × (s < length (stacksIn limits (now t))) × ItemNumber (instanceIn limits (now t)) n ⌝ }
-    ensures { λ r. ⌜ r ≡ stackable (instanceIn limits (now (t .entry))) (stackAt (stacksIn limits (now (t .entry))) s) (item
-        (instanceIn limits (now (t .entry))) n) ⌝ }
+    ensures { λ r. ⌜ r ≡ stackable (instanceIn limits (now (t .entry))) (stackAt (stacksIn limits (now (t .entry))) s)
+        (item (instanceIn limits (now (t .entry))) n) ⌝ }
 {
     (((matches_bottom(t, limits, s, n, IU) & matches_bottom(t, limits, s, n, IP))
         & matches_bottom(t, limits, s, n, IS))
@@ -198,8 +199,8 @@ fn is_stackable(t: &[u32], limits: Limits, s: usize, n: u32) -> bool
 // 18 turned, S4: a forced orientation is the stack's.
 fn orientation_kept(t: &[u32], limits: Limits, s: usize, n: u32) -> bool
     requires { ⌜ Filled limits (now t) × (s < length (stacksIn limits (now t))) × ItemNumber (instanceIn limits (now t)) n ⌝ }
-    ensures { λ r. ⌜ r ≡ orientationKept (instanceIn limits (now (t .entry))) (stackAt (stacksIn limits (now (t .entry))) s) (item
-        (instanceIn limits (now (t .entry))) n) ⌝ }
+    ensures { λ r. ⌜ r ≡ orientationKept (instanceIn limits (now (t .entry))) (stackAt (stacksIn limits (now (t .entry))) s)
+        (item (instanceIn limits (now (t .entry))) n) ⌝ }
 {
     let forced = item_field(t, limits, n, IO);
     (forced == 0) | (forced == stack_field(t, limits, s, ORIENTATION))
@@ -208,8 +209,8 @@ fn orientation_kept(t: &[u32], limits: Limits, s: usize, n: u32) -> bool
 // Whether an item of a stack keeps a rule.
 fn item_kept(rule: ItemRule, t: &[u32], limits: Limits, s: usize, n: u32) -> bool
     requires { ⌜ Filled limits (now t) × (s < length (stacksIn limits (now t))) × ItemNumber (instanceIn limits (now t)) n ⌝ }
-    ensures { λ r. ⌜ r ≡ itemTest rule (instanceIn limits (now (t .entry))) (stackAt (stacksIn limits (now (t .entry))) s) (item
-        (instanceIn limits (now (t .entry))) n) ⌝ }
+    ensures { λ r. ⌜ r ≡ itemTest rule (instanceIn limits (now (t .entry))) (stackAt (stacksIn limits (now (t .entry))) s)
+        (item (instanceIn limits (now (t .entry))) n) ⌝ }
 {
     match rule {
         ItemRule::Plant => plant_matches(t, limits, s, n),
@@ -225,8 +226,8 @@ fn item_kept(rule: ItemRule, t: &[u32], limits: Limits, s: usize, n: u32) -> boo
 // The lowest item of a stack that breaks a rule.
 fn lowest_item(rule: ItemRule, t: &[u32], limits: Limits, s: usize) -> Found
     requires { ⌜ Filled limits (now t) × (s < length (stacksIn limits (now t))) ⌝ }
-    ensures { λ r. ⌜ r ≡ lowestIn (stackRulePlaces (StackRule.EachItem rule) (instanceIn limits (now (t .entry))) ((stackAt (stacksIn limits
-        (now (t .entry))) s) ∷ [])) ⌝ }
+    ensures { λ r. ⌜ r ≡ lowestIn (stackRulePlaces (StackRule.EachItem rule) (instanceIn limits (now (t .entry)))
+        ((stackAt (stacksIn limits (now (t .entry))) s) ∷ [])) ⌝ }
 {
     let number = stack_field(t, limits, s, NUMBER);
     let mut found = Found::Nothing;
@@ -256,8 +257,8 @@ pub enum StackRule {
 // 16 docks, S2 and S3: one plant dock; where the truck's flag is set also two, if they are consecutive.
 fn docks_place(t: &[u32], limits: Limits, rows: &[u32], k: usize) -> Found
     requires { ⌜ HoldsRows limits (now t) (now rows) × (k < length (stacksIn limits (now t))) ⌝ }
-    ensures { λ r. ⌜ r ≡ lowestIn (stackRulePlaces StackRule.Docks (instanceIn limits (now (t .entry))) (visitAt (stacksIn limits (now
-        (t .entry))) k ∷ [])) ⌝ }
+    ensures { λ r. ⌜ r ≡ lowestIn (stackRulePlaces StackRule.Docks (instanceIn limits (now (t .entry)))
+        (visitAt (stacksIn limits (now (t .entry))) k ∷ [])) ⌝ }
 {
     let count = row_word(t, limits, rows, k, row::PLANT_DOCKS);
     let two_docks = stack_truck_field(t, limits, stack_at(t, limits, rows, k), TF) == 1;
@@ -275,8 +276,8 @@ fn docks_place(t: &[u32], limits: Limits, rows: &[u32], k: usize) -> Found
 // 19 top heavy, S5: the weight above the bottom item is within the truck's limit.
 fn top_heavy_place(t: &[u32], limits: Limits, rows: &[u32], k: usize) -> Found
     requires { ⌜ HoldsRows limits (now t) (now rows) × (k < length (stacksIn limits (now t))) ⌝ }
-    ensures { λ r. ⌜ r ≡ lowestIn (stackRulePlaces StackRule.TopHeavy (instanceIn limits (now (t .entry))) (visitAt (stacksIn limits (now
-        (t .entry))) k ∷ [])) ⌝ }
+    ensures { λ r. ⌜ r ≡ lowestIn (stackRulePlaces StackRule.TopHeavy (instanceIn limits (now (t .entry)))
+        (visitAt (stacksIn limits (now (t .entry))) k ∷ [])) ⌝ }
 {
     let s = stack_at(t, limits, rows, k);
     let above = load_sum(t, limits, s, 1, IM);
@@ -287,8 +288,8 @@ fn top_heavy_place(t: &[u32], limits: Limits, rows: &[u32], k: usize) -> Found
 // 20 too many, S6: no more items than the maximal stackability.
 fn too_many_place(t: &[u32], limits: Limits, rows: &[u32], k: usize) -> Found
     requires { ⌜ HoldsRows limits (now t) (now rows) × (k < length (stacksIn limits (now t))) ⌝ }
-    ensures { λ r. ⌜ r ≡ lowestIn (stackRulePlaces StackRule.TooMany (instanceIn limits (now (t .entry))) (visitAt (stacksIn limits (now
-        (t .entry))) k ∷ [])) ⌝ }
+    ensures { λ r. ⌜ r ≡ lowestIn (stackRulePlaces StackRule.TooMany (instanceIn limits (now (t .entry)))
+        (visitAt (stacksIn limits (now (t .entry))) k ∷ [])) ⌝ }
 {
     let s = stack_at(t, limits, rows, k);
     let count = load_count(t, limits, s) as u32;
@@ -307,8 +308,8 @@ fn density_kept(weight: u32, limit: u32, length: u32, width: u32) -> bool
 // 21 dense, S7: the weight on the ground is within the truck's density limit.
 fn dense_place(t: &[u32], limits: Limits, rows: &[u32], k: usize) -> Found
     requires { ⌜ HoldsRows limits (now t) (now rows) × (k < length (stacksIn limits (now t))) ⌝ }
-    ensures { λ r. ⌜ r ≡ lowestIn (stackRulePlaces StackRule.Dense (instanceIn limits (now (t .entry))) (visitAt (stacksIn limits (now
-        (t .entry))) k ∷ [])) ⌝ }
+    ensures { λ r. ⌜ r ≡ lowestIn (stackRulePlaces StackRule.Dense (instanceIn limits (now (t .entry)))
+        (visitAt (stacksIn limits (now (t .entry))) k ∷ [])) ⌝ }
 {
     let s = stack_at(t, limits, rows, k);
     let weight = row_word(t, limits, rows, k, row::WEIGHT);
@@ -318,7 +319,7 @@ fn dense_place(t: &[u32], limits: Limits, rows: &[u32], k: usize) -> Found
     place_if(!kept, row_word(t, limits, rows, k, row::NUMBER), weight, 0)
 }
 
-// The lowest dimension that does not fit: 1 length, 2 width, 3 height.
+// The lowest dimension that does not fit: 1 length, 2 width, 3 height. The two tests say whether length and width fit.
 fn exceeded_side(length: bool, width: bool) -> u32
     ensures { λ r. ⌜ r ≡ cond (not length) 1 (cond (not width) 2 3) ⌝ }
 {
@@ -334,20 +335,20 @@ fn exceeded_side(length: bool, width: bool) -> u32
 // 22 outside, P1: the stack is within the trailer.
 fn outside_place(t: &[u32], limits: Limits, rows: &[u32], k: usize) -> Found
     requires { ⌜ HoldsRows limits (now t) (now rows) × (k < length (stacksIn limits (now t))) ⌝ }
-    ensures { λ r. ⌜ r ≡ lowestIn (stackRulePlaces StackRule.Outside (instanceIn limits (now (t .entry))) (visitAt (stacksIn limits (now
-        (t .entry))) k ∷ [])) ⌝ }
+    ensures { λ r. ⌜ r ≡ lowestIn (stackRulePlaces StackRule.Outside (instanceIn limits (now (t .entry)))
+        (visitAt (stacksIn limits (now (t .entry))) k ∷ [])) ⌝ }
 {
     let s = stack_at(t, limits, rows, k);
     let ground = footprint_at(t, limits, rows, k);
     let size = read_size(t, limits, s);
-    let length = ground.xe <= stack_truck_field(t, limits, s, TL);
-    let width = ground.ye <= stack_truck_field(t, limits, s, TW);
-    let height = size.height <= stack_truck_field(t, limits, s, TH);
-    let inside = (length & width) & height;
+    let within_length = ground.xe <= stack_truck_field(t, limits, s, TL);
+    let within_width = ground.ye <= stack_truck_field(t, limits, s, TW);
+    let within_height = size.height <= stack_truck_field(t, limits, s, TH);
+    let inside = (within_length & within_width) & within_height;
     place_if(
         !inside,
         row_word(t, limits, rows, k, row::NUMBER),
-        exceeded_side(length, width),
+        exceeded_side(within_length, within_width),
         0,
     )
 }
@@ -355,7 +356,8 @@ fn outside_place(t: &[u32], limits: Limits, rows: &[u32], k: usize) -> Found
 // Where the stack that is visited at place k breaks a rule.
 fn stack_place(rule: StackRule, t: &[u32], limits: Limits, rows: &[u32], k: usize) -> Found
     requires { ⌜ HoldsRows limits (now t) (now rows) × (k < length (stacksIn limits (now t))) ⌝ }
-    ensures { λ r. ⌜ r ≡ lowestIn (stackRulePlaces rule (instanceIn limits (now (t .entry))) (visitAt (stacksIn limits (now (t .entry))) k ∷ [])) ⌝ }
+    ensures { λ r. ⌜ r ≡ lowestIn (stackRulePlaces rule (instanceIn limits (now (t .entry)))
+        (visitAt (stacksIn limits (now (t .entry))) k ∷ [])) ⌝ }
 {
     match rule {
         StackRule::EachItem(each) => lowest_item(each, t, limits, stack_at(t, limits, rows, k)),

@@ -75,8 +75,8 @@ pub fn bottom_field(t: &[u32], limits: Limits, s: usize, field: usize) -> u32
 // A field of the truck that a stack is on.
 pub fn stack_truck_field(t: &[u32], limits: Limits, s: usize, field: usize) -> u32
     requires { ⌜ Filled limits (now t) × (s < length (stacksIn limits (now t))) × (field < 20) ⌝ }
-    ensures { λ r. ⌜ (r ≡ getD (truckOf (instanceIn limits (now (t .entry))) (stackAt (stacksIn limits (now
-        (t .entry))) s) .fields) field 0) × (r ≤ truckMost field) ⌝ }
+    ensures { λ r. ⌜ (r ≡ getD (truckOf (instanceIn limits (now (t .entry))) (stackAt (stacksIn limits (now (t .entry))) s) .fields) field
+        0) × (r ≤ truckMost field) ⌝ }
 {
     truck_field(t, limits, stack_truck(t, limits, s), field)
 }
@@ -120,9 +120,8 @@ pub fn read_footprint(t: &[u32], limits: Limits, s: usize) -> Footprint
 // The sum of a field over the items of a stack: all of them from 0, those above the bottom item from 1.
 pub fn load_sum(t: &[u32], limits: Limits, s: usize, from: usize, field: usize) -> u32
     requires { ⌜ Filled limits (now t) × (s < length (stacksIn limits (now t))) × (from ≤ 1) × (field < 16) ⌝ }
-    ensures { λ r. ⌜ (r ≡ sum (λ n. getD (item (instanceIn limits (now (t .entry))) n) field 0) (drop from ((stackAt (stacksIn limits (now
-        (t .entry))) s) .load)))
-        × (r ≤ itemMost field * 64) ⌝ }
+    ensures { λ r. ⌜ (r ≡ sum (λ n. getD (item (instanceIn limits (now (t .entry))) n) field 0)
+        (drop from ((stackAt (stacksIn limits (now (t .entry))) s) .load))) × (r ≤ itemMost field * 64) ⌝ }
 {
     let n = load_count(t, limits, s);
     let mut sum: u32 = 0;
@@ -153,8 +152,9 @@ pub fn read_size(t: &[u32], limits: Limits, s: usize) -> Size
 // The loading order of a supplier.
 pub fn supplier_order(t: &[u32], limits: Limits, s: usize, supplier: u32) -> usize
     requires { ⌜ Filled limits (now t) × (s < length (stacksIn limits (now t))) ⌝ }
-    ensures { λ r. ⌜ (r ≡ orderIn (truckOf (instanceIn limits (now (t .entry))) (stackAt (stacksIn limits (now (t .entry))) s) .suppliers) supplier)
-        × (r ≤ length (truckOf (instanceIn limits (now (t .entry))) (stackAt (stacksIn limits (now (t .entry))) s) .suppliers)) × (r ≤ 8) ⌝ }
+    ensures { λ r. ⌜ (r ≡ orderIn (truckOf (instanceIn limits (now (t .entry))) (stackAt (stacksIn limits (now (t .entry))) s) .suppliers)
+        supplier) × (r ≤ length (truckOf (instanceIn limits (now (t .entry))) (stackAt (stacksIn limits (now (t .entry))) s) .suppliers))
+        × (r ≤ 8) ⌝ }
 {
     order_in(suppliers(t, limits, stack_truck(t, limits, s)), supplier)
 }
@@ -162,8 +162,8 @@ pub fn supplier_order(t: &[u32], limits: Limits, s: usize, supplier: u32) -> usi
 // The loading order of an item's supplier dock among the docks of its supplier.
 pub fn supplier_dock_order(t: &[u32], limits: Limits, s: usize, n: u32) -> usize
     requires { ⌜ Filled limits (now t) × (s < length (stacksIn limits (now t))) × ItemNumber (instanceIn limits (now t)) n ⌝ }
-    ensures { λ r. ⌜ (r ≡ supplierDockOrder (instanceIn limits (now (t .entry))) (stackAt (stacksIn limits (now (t .entry))) s) (item
-        (instanceIn limits (now (t .entry))) n)) × (r ≤ 8) ⌝ }
+    ensures { λ r. ⌜ (r ≡ supplierDockOrder (instanceIn limits (now (t .entry))) (stackAt (stacksIn limits (now (t .entry))) s)
+        (item (instanceIn limits (now (t .entry))) n)) × (r ≤ 8) ⌝ }
 {
     let order = supplier_order(t, limits, s, item_field(t, limits, n, IU));
     if order == 0 {
@@ -176,8 +176,8 @@ pub fn supplier_dock_order(t: &[u32], limits: Limits, s: usize, n: u32) -> usize
 // The loading order of an item's plant dock.
 pub fn plant_dock_order(t: &[u32], limits: Limits, s: usize, n: u32) -> usize
     requires { ⌜ Filled limits (now t) × (s < length (stacksIn limits (now t))) × ItemNumber (instanceIn limits (now t)) n ⌝ }
-    ensures { λ r. ⌜ (r ≡ plantDockOrder (instanceIn limits (now (t .entry))) (stackAt (stacksIn limits (now (t .entry))) s) (item
-        (instanceIn limits (now (t .entry))) n)) × (r ≤ 8) ⌝ }
+    ensures { λ r. ⌜ (r ≡ plantDockOrder (instanceIn limits (now (t .entry))) (stackAt (stacksIn limits (now (t .entry))) s)
+        (item (instanceIn limits (now (t .entry))) n)) × (r ≤ 8) ⌝ }
 {
     let list = plant_docks(t, limits, stack_truck(t, limits, s));
     order_in(list, item_field(t, limits, n, IG))
@@ -248,8 +248,10 @@ pub fn read_rank(t: &[u32], limits: Limits, s: usize) -> Rank
 
 // Whether an item of a stack, from place `from` on, has this plant dock.
 fn has_plant_dock(t: &[u32], limits: Limits, s: usize, from: usize, dock: u32) -> bool
-    requires { ⌜ Filled limits (now t) × (s < length (stacksIn limits (now t))) × (from ≤ length (stackAt (stacksIn limits (now t)) s .load)) ⌝ }
-    ensures { λ r. ⌜ r ≡ listed dock (plantDocksFrom (instanceIn limits (now (t .entry))) (stackAt (stacksIn limits (now (t .entry))) s) from) ⌝ }
+    requires { ⌜ Filled limits (now t) × (s < length (stacksIn limits (now t)))
+        × (from ≤ length (stackAt (stacksIn limits (now t)) s .load)) ⌝ }
+    ensures { λ r. ⌜ r ≡ listed dock (plantDocksFrom (instanceIn limits (now (t .entry))) (stackAt (stacksIn limits (now (t .entry))) s)
+        from) ⌝ }
 {
     let n = load_count(t, limits, s);
     let mut j = from;
