@@ -1,33 +1,33 @@
 -- P4 on ranks: comparing the highest of some loading orders with the lowest of others compares each with each.
-use mathlib.Core.Path.{_≡_, refl, sym, ap₂, _∙_}
-use mathlib.Core.Bool.{Bool, true, false, cond, not, _&&_, _||_}
+use mathlib.Core.Path.{_≡_, refl, sym, _∙_}
+use mathlib.Core.Logic.{_↔_}
+use mathlib.Core.Bool.{Bool, true, false, not, _&&_, _||_, or-true, or-false}
 use mathlib.Core.List.{List, [], _∷_, map}
 use Prim.Native.Nat.{ℕ, _≤_, _<_}
-use native.Mathlib.Omega.{arith}
-use borrow.Author.Tests.{ltb-true, ltb-false, leb-true, le-leb, lt-leb, eq-eqb, ne-eqb}
+use borrow.Author.Tests.{le-leb, lt-leb, eq-eqb, ne-eqb}
 use lib.Dec.{leb, ltb, eqb}
 use lib.ListN.{length, getD}
 use Rattle.meaning.specs.declared.Limits.{Limits}
-use Rattle.meaning.specs.Lists.{all}
+use Rattle.meaning.specs.Lists.{all, Every}
 use Rattle.meaning.specs.Model.{Instance, Stack, item, x}
 use Rattle.meaning.specs.Measures.{plantDockOrder}
 use Rattle.meaning.specs.Rules.{docksNotAfter, loadsBefore, inLoadingOrder}
 use Rattle.meaning.specs.Table.{instanceIn, stacksIn}
+use Rattle.meaning.proofs.Tests.{and-reads, le-reads, same-test, iff-trans, iff-sym, iff-both}
 use Rattle.table.specs.Filled.{Filled}
 use Rattle.views.specs.declared.Rank.{Rank}
 use Rattle.views.specs.Views.{plantDockOrders, spanOf, rankOf}
 use Rattle.views.proofs.Bounds.{orders-bound}
+use Rattle.views.proofs.Spans.{span-low, span-high}
 use Rattle.visits.specs.Visits.{visitOrder, visitAt}
 use Rattle.visits.proofs.Order.{order-within}
 use Rattle.pairrules.specs.PairRules.{ranksBefore}
 
 -- ---- the test on ranks, as the code makes it
-or-none : (b : Bool) → b ≡ (b || false || false)
-or-none true = refl
-or-none false = refl
-
 pub other-supplier : (a b : Rank) → (a .supplier ≡ b .supplier → ⊥) → ltb (a .«supplier_order») (b .«supplier_order») ≡ ranksBefore a b
-other-supplier a b d = rw (ne-eqb (a .supplier) (b .supplier) d) (or-none _)
+other-supplier a b d =
+    let earlier = ltb (a .«supplier_order») (b .«supplier_order») in
+    rw (ne-eqb (a .supplier) (b .supplier) d) (sym (or-false (earlier || false) ∙ or-false earlier))
 
 pub one-supplier : (a b : Rank) → a .supplier ≡ b .supplier
     → (ltb (a .«supplier_order») (b .«supplier_order») || ltb (a .«dock_order») (b .«dock_order»)
@@ -36,52 +36,25 @@ pub one-supplier : (a b : Rank) → a .supplier ≡ b .supplier
 one-supplier a b e = rw (eq-eqb (a .supplier) (b .supplier) e) refl
 
 -- ---- spans
--- where one test follows from the other, both hold as the other does
-first-decides : (a b : Bool) → (a ≡ true → b ≡ true) → (a && b) ≡ a
-first-decides true b f = f refl
-first-decides false b f = refl
-
-second-decides : (a b : Bool) → (b ≡ true → a ≡ true) → (a && b) ≡ b
-second-decides true b f = refl
-second-decides false true f = f refl
-second-decides false false f = refl
-
--- a number is at most the lower of two where it is at most both, and at least the higher where it is at least both
-below-lower : (k a low : ℕ) → (leb k a && leb k low) ≡ leb k (cond (ltb a low) a low)
-below-lower k a low = go (ltb a low) refl
-  where
-    go : (t : Bool) → ltb a low ≡ t → (leb k a && leb k low) ≡ leb k (cond t a low)
-    go true e = first-decides (leb k a) (leb k low) (λ h. le-leb k low (omega (arith, leb-true k a h, ltb-true a low e)))
-    go false e = second-decides (leb k a) (leb k low) (λ h. le-leb k a (omega (arith, leb-true k low h, ltb-false a low e)))
-
-above-higher : (k a high : ℕ) → (leb a k && leb high k) ≡ leb (cond (ltb high a) a high) k
-above-higher k a high = go (ltb high a) refl
-  where
-    go : (t : Bool) → ltb high a ≡ t → (leb a k && leb high k) ≡ leb (cond t a high) k
-    go true e = first-decides (leb a k) (leb high k) (λ h. le-leb high k (omega (arith, leb-true a k h, ltb-true high a e)))
-    go false e = second-decides (leb a k) (leb high k) (λ h. le-leb a k (omega (arith, leb-true high k h, ltb-false high a e)))
-
 module _ {A : Type 0} where
-  all-agree : (test test′ : A → Bool) → ((a : A) → test a ≡ test′ a) → (l : List A) → all test l ≡ all test′ l
+  -- all pass a test exactly when every one has what the test reads
+  all-every : (test : A → Bool) (P : A → Type 0) → ((a : A) → (test a ≡ true) ↔ P a) → (l : List A) → (all test l ≡ true) ↔ Every P l
   unfolding all
-  all-agree test test′ f [] = refl
-  all-agree test test′ f (a ∷ l) = ap₂ _&&_ (f a) (all-agree test test′ f l)
-
-  all-below-lowest : (g : A → ℕ) (k : ℕ) → k ≤ 8 → (l : List A) → all (λ a. leb k (g a)) l ≡ leb k (spanOf (map g l) .lowest)
-  unfolding all spanOf
-  all-below-lowest g k h [] = sym (le-leb k 8 h)
-  all-below-lowest g k h (a ∷ l) = rw (all-below-lowest g k h l) (below-lower k (g a) (spanOf (map g l) .lowest))
-
-  all-above-highest : (f : A → ℕ) (k : ℕ) (l : List A) → all (λ a. leb (f a) k) l ≡ leb (spanOf (map f l) .highest) k
-  unfolding all spanOf
-  all-above-highest f k [] = sym (le-leb 0 k (omega arith))
-  all-above-highest f k (a ∷ l) = rw (all-above-highest f k l) (above-higher k (f a) (spanOf (map f l) .highest))
+  all-every test P reads [] = ((λ e. tt), (λ h. refl))
+  all-every test P reads (a ∷ l) = iff-trans (and-reads (test a) (all test l)) (iff-both (reads a) (all-every test P reads l))
 
   -- numbers that are at most 8 are each at most each of others where the highest is at most the lowest of those
   all-spans : (f g : A → ℕ) → ((a : A) → f a ≤ 8) → (l l′ : List A)
       → all (λ a. all (λ b. leb (f a) (g b)) l′) l ≡ leb (spanOf (map f l) .highest) (spanOf (map g l′) .lowest)
   all-spans f g few l l′ =
-      all-agree _ _ (λ a. all-below-lowest g (f a) (few a) l′) l ∙ all-above-highest f (spanOf (map g l′) .lowest) l
+      let high = spanOf (map f l) .highest in
+      let low = spanOf (map g l′) .lowest in
+      same-test _ (leb high low) (iff-trans (all-every _ (λ (a : A). f a ≤ low) each l) (iff-trans (iff-sym (span-high f l low)) (iff-sym (le-reads high low))))
+    where
+      each : (a : A) → (all (λ b. leb (f a) (g b)) l′ ≡ true) ↔ (f a ≤ spanOf (map g l′) .lowest)
+      each a =
+          iff-trans (all-every _ (λ (b : A). f a ≤ g b) (λ b. le-reads (f a) (g b)) l′)
+          ((λ h. span-low g l′ (f a) .1 (few a, h)), (λ h. span-low g l′ (f a) .0 h .1))
 
 -- ---- P4 (3), on stacks whose plant dock orders are at most 8
 abbrev pub FewOrders : Instance → Stack → Type 0
@@ -101,21 +74,13 @@ pub few-orders : {m : Limits} {t : List ℕ} → Filled m t → (k : ℕ) → k 
 few-orders {m} {t} h k inside = orders-bound h (getD (visitOrder (stacksIn m t)) k 0) (order-within (stacksIn m t) k inside)
 
 -- ---- 25 order, as the code asks it
-either-way : (b : Bool) → true ≡ (not b || true)
-either-way true = refl
-either-way false = refl
-
-unless : (b : Bool) → not b ≡ (not b || false)
-unless true = refl
-unless false = refl
-
 -- two stacks and their x as the rows have it
 module _ (i : Instance) (s r : Stack) {u v : ℕ} (eu : u ≡ x s) (ev : v ≡ x r) where
   pub front-kept : u ≤ v → true ≡ inLoadingOrder i s r
-  front-kept h = rw (le-leb (x s) (x r) (rw (eu, ev) at h)) (either-way (loadsBefore i s r))
+  front-kept h = rw (le-leb (x s) (x r) (rw (eu, ev) at h)) (sym (or-true (not (loadsBefore i s r))))
 
   pub behind-kept : v < u → FewOrders i s → FewOrders i r → {a b : Rank} {before : Bool} → a ≡ rankOf i s → b ≡ rankOf i r → before ≡ ranksBefore a b
       → not before ≡ inLoadingOrder i s r
   behind-kept h few few′ {a} {b} {before} ea eb e =
       let same : before ≡ loadsBefore i s r = e ∙ rw (ea, eb) (ranks-before i s r few few′) in
-      rw (same, lt-leb (x s) (x r) (rw (eu, ev) at h)) (unless (loadsBefore i s r))
+      rw (same, lt-leb (x s) (x r) (rw (eu, ev) at h)) (sym (or-false (not (loadsBefore i s r))))

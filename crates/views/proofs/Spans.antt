@@ -1,0 +1,66 @@
+-- The span of some loading orders, by each order: whatever list has the same orders has the same span.
+use mathlib.Core.Path.{_≡_, refl}
+use mathlib.Core.Logic.{_↔_}
+use mathlib.Core.Bool.{Bool, true, false, cond}
+use mathlib.Core.List.{List, [], _∷_, map}
+use Prim.Native.Nat.{ℕ, _≤_, min, max}
+use native.Mathlib.Omega.{arith}
+use borrow.Author.Tests.{ltb-true, ltb-false}
+use lib.Dec.{ltb}
+use Rattle.meaning.specs.Lists.{Every}
+use Rattle.meaning.proofs.Permute.{Same, same-every}
+use Rattle.views.specs.Views.{spanOf}
+
+-- ---- one order more
+pub lower-one : (a b : ℕ) → cond (ltb a b) a b ≡ min a b
+lower-one a b = go (ltb a b) refl
+  where
+    go : (t : Bool) → ltb a b ≡ t → cond t a b ≡ min a b
+    go true e = omega (arith, ltb-true a b e)
+    go false e = omega (arith, ltb-false a b e)
+
+pub higher-one : (a b : ℕ) → cond (ltb b a) a b ≡ max a b
+higher-one a b = go (ltb b a) refl
+  where
+    go : (t : Bool) → ltb b a ≡ t → cond t a b ≡ max a b
+    go true e = omega (arith, ltb-true b a e)
+    go false e = omega (arith, ltb-false b a e)
+
+-- ---- the orders of a list's elements
+module _ {A : Type 0} (order : A → ℕ) where
+  -- a number (up to 8) is at most the lowest exactly when it is at most each order
+  pub span-low : (l : List A) (n : ℕ) → (n ≤ spanOf (map order l) .lowest) ↔ ((n ≤ 8) × Every (λ (a : A). n ≤ order a) l)
+  unfolding spanOf
+  span-low [] n = ((λ h. (h, tt)), (λ h. h .0))
+  span-low (a ∷ l) n = rw (lower-one (order a) (spanOf (map order l) .lowest)) (
+    (λ h. let k = span-low l n .0 (omega arith) in (k .0, (omega arith, k .1))),
+    (λ h. let k = span-low l n .1 (h .0, h .1 .1) in omega arith),
+  )
+
+  -- the highest is at most a number exactly when each order is
+  pub span-high : (l : List A) (n : ℕ) → (spanOf (map order l) .highest ≤ n) ↔ Every (λ (a : A). order a ≤ n) l
+  unfolding spanOf
+  span-high [] n = ((λ h. tt), (λ h. omega arith))
+  span-high (a ∷ l) n = rw (higher-one (order a) (spanOf (map order l) .highest)) (
+    (λ h. (omega arith, span-high l n .0 (omega arith))),
+    (λ h. let k = span-high l n .1 (h .1) in omega arith),
+  )
+
+  -- ---- lists with the same elements
+  lowest-upto : (l l′ : List A) → Same l l′ → spanOf (map order l) .lowest ≤ spanOf (map order l′) .lowest
+  lowest-upto l l′ s =
+      let n = spanOf (map order l) .lowest in
+      let h = span-low l n .0 (omega arith) in
+      span-low l′ n .1 (h .0, same-every (λ (a : A). n ≤ order a) l l′ s (h .1))
+
+  highest-upto : (l l′ : List A) → Same l l′ → spanOf (map order l′) .highest ≤ spanOf (map order l) .highest
+  highest-upto l l′ s =
+      let n = spanOf (map order l) .highest in
+      span-high l′ n .1 (same-every (λ (a : A). order a ≤ n) l l′ s (span-high l n .0 (omega arith)))
+
+  module _ (l l′ : List A) (s : Same l l′) where
+    pub lowest-same : spanOf (map order l) .lowest ≡ spanOf (map order l′) .lowest
+    lowest-same = omega (arith, lowest-upto l l′ s, lowest-upto l′ l (s .1, s .0))
+
+    pub highest-same : spanOf (map order l) .highest ≡ spanOf (map order l′) .highest
+    highest-same = omega (arith, highest-upto l l′ s, highest-upto l′ l (s .1, s .0))
