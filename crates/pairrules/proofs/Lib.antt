@@ -1,2 +1,4 @@
-pub mod Pairs
+pub mod Blocks
 pub mod Ranks
+pub mod Pairs
+pub mod Unbraced

@@ -2,7 +2,7 @@
 use Prim.Native.Nat.{_-_}
 use borrow.Author.Needs.{needs}
 use Rattle.meaning.specs.Table.{instanceIn, stacksIn}
-use Rattle.pairrules.proofs.Pairs.{BracedUpto, braced-start, braced-more, unbraced-found, unbraced-none}
+use Rattle.pairrules.proofs.Unbraced.{BracedUpto, braced-start, braced-more, unbraced-found, unbraced-none}
 use Rattle.pairrules.proofs.first_unbraced.Statement.{statement}
 use Rattle.pairrules.proofs.first_unbraced.Tie as tie
 

@@ -2,7 +2,7 @@
 use Prim.Native.Nat.{_-_}
 use borrow.Author.Needs.{needs}
 use Rattle.meaning.specs.Table.{instanceIn, stacksIn}
-use Rattle.pairrules.proofs.Pairs.{Unheld, at-front, unheld-start, held-found, unheld-more, not-braced}
+use Rattle.pairrules.proofs.Unbraced.{Unheld, at-front, unheld-start, held-found, unheld-more, not-braced}
 use Rattle.pairrules.proofs.is_braced.Statement.{statement}
 use Rattle.pairrules.proofs.is_braced.Tie as tie
 
