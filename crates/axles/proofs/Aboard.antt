@@ -1,4 +1,4 @@
--- The stacks that are on: one visited stack more, as their weight and their number take it.
+-- The stacks that are on: one visited stack more, as their weight and the test whether there is any take it.
 use mathlib.Core.Path.{_≡_, refl}
 use mathlib.Core.Bool.{Bool, true, false, cond}
 use mathlib.Core.List.{List, [], _∷_}

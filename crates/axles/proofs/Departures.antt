@@ -1,8 +1,7 @@
 -- The searches: an axle at a departure of numbers that were read, and the places of one used truck.
 use mathlib.Core.Path.{_≡_, refl, sym, ap, _∙_}
-use mathlib.Core.Logic.{_↔_}
-use mathlib.Core.Bool.{Bool, true, not, _&&_}
-use mathlib.Core.List.{List, [], _∷_, map, flatMap, append-nil}
+use mathlib.Core.Bool.{Bool, not, _&&_}
+use mathlib.Core.List.{List, flatMap, append-nil}
 use Prim.Native.Nat.{ℕ, zero, suc, _+_, _-_, _≤_, _<_}
 use native.Mathlib.Omega.{arith}
 use lib.Dec.{leb}
@@ -10,55 +9,38 @@ use lib.IntN.{ℤ}
 use lib.ListN.{length, getD}
 use mir.Syntax.{w64}
 use mir.Val.{SFits, toZ, ofZ}
-use mir.Facts.{toZ-ofZ}
 use Rattle.meaning.specs.declared.Limits.{Limits}
 use Rattle.meaning.specs.declared.Place.{Place}
-use Rattle.meaning.specs.Lists.{Every, any, filter, dedup, onlyIf, upFrom}
+use Rattle.meaning.specs.Lists.{Every, onlyIf, upFrom}
 use Rattle.meaning.specs.Places.{place}
 use Rattle.meaning.specs.Model.{Instance, Truck, Stack, truckNumbered, TMm, CM, CJfm, CJfc, CJfh, EM, EJhr, EMmr, EMmm}
-use Rattle.meaning.specs.Measures.{UsedTruck, usedBy, sameUsed, supplierOrder, usedTrucks, stacksOn, stacksAt, departures, weightOn, H}
+use Rattle.meaning.specs.Measures.{UsedTruck, usedBy, supplierOrder, stacksAt, departures, weightOn, H}
 use Rattle.meaning.specs.Rules.{truckPlaces, departurePlaces, counts, withinLoadLimit, middleAxleHolds, rearAxleHolds}
 use Rattle.meaning.specs.Table.{instanceIn, stacksIn}
 use Rattle.meaning.proofs.Tests.{between-reads}
 use Rattle.meaning.proofs.Lists.{every-map, every-reads}
-use Rattle.meaning.proofs.RuleKinds.{used-reads}
 use Rattle.table.specs.Filled.{Filled, noStack}
 use Rattle.search.specs.Lowest.{lowestIn}
 use Rattle.visits.specs.Visits.{visitOrder, visitAt, block, OneTruck}
 use Rattle.visits.proofs.Order.{length-upFrom, order-within}
-use Rattle.visits.proofs.UsedTrucks.{in-at, block-length, block-at, block-used}
+use Rattle.visits.proofs.UsedTrucks.{in-at, block-length, block-at, block-used, filter-all, used-one, all-on}
 use Rattle.visits.proofs.RowMost.{row-most}
 use Rattle.axles.specs.Aboard.{aboard, middleHolds, rearHolds}
+use Rattle.axles.proofs.Signed.{stored}
 
 -- ---- an axle at a departure
--- a signed number that is handed on
-handed : {y z : ℤ} → SFits w64 y → y ≡ z → toZ w64 (ofZ w64 y) ≡ z
-handed f e = toZ-ofZ {w = w64} f ∙ e
-
 module _ (i : Instance) (t : Truck) (on : List Stack) {h : ℤ} (fits : SFits w64 h) (eh : h ≡ H i t on) where
   pub middle-is : {ejhr cm cjfc cjfh cjfm emmm : ℕ} → ejhr ≡ EJhr t → cm ≡ CM t → cjfc ≡ CJfc t → cjfh ≡ CJfh t → cjfm ≡ CJfm t → emmm ≡ EMmm t
       → middleHolds (toZ w64 (ofZ w64 h)) ejhr cm cjfc cjfh cjfm emmm ≡ middleAxleHolds i t on
   unfolding middleHolds middleAxleHolds
-  middle-is e1 e2 e3 e4 e5 e6 = rw (handed fits eh, e1, e2, e3, e4, e5, e6) refl
+  middle-is e1 e2 e3 e4 e5 e6 = rw (stored fits eh, e1, e2, e3, e4, e5, e6) refl
 
   pub rear-is : {ejhr weight em emmr : ℕ} → ejhr ≡ EJhr t → weight ≡ weightOn i on → em ≡ EM t → emmr ≡ EMmr t
       → rearHolds (toZ w64 (ofZ w64 h)) ejhr weight em emmr ≡ rearAxleHolds i t on
   unfolding rearHolds rearAxleHolds
-  rear-is e1 e2 e3 e4 = rw (handed fits eh, e1, e2, e3, e4) refl
+  rear-is e1 e2 e3 e4 = rw (stored fits eh, e1, e2, e3, e4) refl
 
 -- ---- stacks that are all on one used truck
-one-left : {A B : Type 0} (same : B → B → Bool) (reads : (a b : B) → (same a b ≡ true) ↔ (a ≡ b)) (f : A → B) (u : B) (l : List A) → 0 < length l
-    → Every (λ (a : A). f a ≡ u) l → dedup same (map f l) ≡ u ∷ []
-unfolding dedup any
-one-left same reads f u [] some h = absurd (omega arith)
-one-left same reads f u (a ∷ []) some h = ap (λ b. b ∷ []) (h .0)
-one-left same reads f u (a ∷ b ∷ l) some h = rw (reads (f a) (f b) .1 (h .0 ∙ sym (h .1 .0))) (one-left same reads f u (b ∷ l) (omega arith) (h .1))
-
-filter-all : {A : Type 0} (test : A → Bool) (l : List A) → Every (λ (a : A). test a ≡ true) l → filter test l ≡ l
-unfolding filter
-filter-all test [] h = refl
-filter-all test (a ∷ l) h = rw (h .0, filter-all test l (h .1)) refl
-
 -- the place of a departure that counts and at which a rule is broken
 unfoldable pub departureAt : (Instance → Truck → List Stack → Bool) → Instance → UsedTruck → List Stack → ℕ → List Place
 unfolding aboard
@@ -68,21 +50,14 @@ departureAt kept i u p k =
 
 module _ (i : Instance) (kept : Instance → Truck → List Stack → Bool) (u : UsedTruck) (p : List Stack) (some : 0 < length p)
     (one : Every (λ (s : Stack). usedBy s ≡ u) p) where
-  used-one : usedTrucks p ≡ u ∷ []
-  unfolding usedTrucks
-  used-one = one-left sameUsed used-reads usedBy u p some one
-
-  all-on : stacksOn p u ≡ p
-  unfolding stacksOn
-  all-on = filter-all _ p (every-map _ _ (λ s e. used-reads u (usedBy s) .1 (sym e)) p one)
-
   truck-one : truckPlaces kept i p ≡ onlyIf (not (kept i (truckNumbered i (u .truck)) p)) (place (u .truck) (u .copy) 0)
   unfolding truckPlaces flatMap
-  truck-one = rw (used-one, all-on) (append-nil _)
+  truck-one = rw (used-one u p some one, all-on u p one) (append-nil _)
 
   departures-one : departurePlaces kept i p ≡ flatMap (departureAt kept i u p) (departures i u)
   unfolding departurePlaces flatMap departureAt stacksAt aboard
-  departures-one = rw used-one (append-nil _) ∙ ap (λ (on : List Stack). flatMap (departureAt kept i u on) (departures i u)) all-on
+  departures-one =
+      rw (used-one u p some one) (append-nil _) ∙ ap (λ (on : List Stack). flatMap (departureAt kept i u on) (departures i u)) (all-on u p one)
 
 -- ---- loading orders from 0 to 8 are all that there are
 all-aboard : (i : Instance) (p : List Stack) → Every (λ (s : Stack). supplierOrder i s ≤ 8) p → aboard i p 0 8 ≡ p

@@ -1,6 +1,5 @@
 -- Cost and used trucks: a sum that is counted down a list, how large the inventory cost can be, and the used trucks of a plan one by one.
 use mathlib.Core.Path.{_≡_, refl, sym, ap, _∙_}
-use mathlib.Core.Bool.{true}
 use mathlib.Core.List.{List, [], _∷_, _++_, flatMap}
 use Prim.Native.Nat.{ℕ, zero, suc, _+_, _-_, _*_, _≤_, _<_}
 use native.Mathlib.Nat.{le-trans, mul-le-mul}
@@ -9,19 +8,18 @@ use borrow.Author.Tests.{ne-eqb}
 use lib.ListN.{length, getD, drop, drop-of-length-le, length-append}
 use lib.Seq.{drop-cons}
 use Rattle.meaning.specs.declared.Limits.{Limits}
-use Rattle.meaning.specs.Lists.{any, dedup, sum, Every}
+use Rattle.meaning.specs.Lists.{dedup, sum}
 use Rattle.meaning.specs.Model.{Instance, Stack, item, truckNumbered, truckOf, truck, copy, IC, IDL, TC, TDA}
-use Rattle.meaning.specs.Measures.{UsedTruck, usedBy, sameUsed, usedTrucks}
+use Rattle.meaning.specs.Measures.{UsedTruck, usedBy, usedTrucks}
 use Rattle.meaning.specs.Table.{instanceIn, stacksIn, loadEntries}
 use Rattle.meaning.specs.Verdict.{acceptance, daysEarly, transportCost, inventoryCost, cost}
 use Rattle.meaning.proofs.Permute.{length-perm, sum-perm}
 use Rattle.meaning.proofs.Ranges.{in-range-fits}
-use Rattle.meaning.proofs.RuleKinds.{used-reads}
 use Rattle.meaning.proofs.VerdictOrder.{usedTrucks-perm}
 use Rattle.table.specs.Filled.{Filled}
 use Rattle.visits.specs.Visits.{visitAt, visited, block, OneTruck, Parted}
 use Rattle.visits.proofs.Order.{visited-length, visited-perm}
-use Rattle.visits.proofs.UsedTrucks.{parted-end, block-split, block-length, block-used, block-apart}
+use Rattle.visits.proofs.UsedTrucks.{parted-end, block-split, block-length, block-used, block-apart, used-one}
 use Rattle.judging.specs.Judging.{usedTruck}
 use Rattle.judging.proofs.Apart.{used-apart}
 
@@ -130,15 +128,6 @@ pub cost-used : (i : Instance) (s : Stack) {n k r : ℕ} → r ≡ transportCost
 cost-used i s e en ek = e ∙ rw (en, ek) refl
 
 -- ---- the used trucks
--- some stacks on one used truck
-one-used : (u : UsedTruck) (l : List Stack) → 0 < length l → Every (λ (s : Stack). usedBy s ≡ u) l → usedTrucks l ≡ u ∷ []
-unfolding usedTrucks dedup any
-one-used u [] some h = absurd (omega arith)
-one-used u (s ∷ []) some h = ap (λ (v : UsedTruck). v ∷ []) (h .0)
-one-used u (s ∷ r ∷ l) some h =
-    let same : sameUsed (usedBy s) (usedBy r) ≡ true = used-reads (usedBy s) (usedBy r) .1 (h .0 ∙ sym (h .1 .0)) in
-    rw same (one-used u (r ∷ l) (omega arith) (h .1))
-
 -- the used truck of some stacks that are visited together, in front of those of the stacks after them
 used-more : (i : Instance) {p : List Stack} {start end : ℕ} → OneTruck p start end → Parted p end
     → usedTrucks (drop start (visited p)) ≡ usedBy (visitAt p start) ∷ usedTrucks (drop end (visited p))
@@ -146,7 +135,7 @@ used-more i {p} {start} {end} one parted =
     let stacks = block p start end in
     let rest = drop end (visited p) in
     ap usedTrucks (block-split p start end (omega arith)) ∙ used-apart i stacks rest (block-apart one parted)
-    ∙ ap (λ (l : List UsedTruck). l ++ usedTrucks rest) (one-used (usedBy (visitAt p start)) stacks (omega (arith, block-length one)) (block-used one))
+    ∙ ap (λ (l : List UsedTruck). l ++ usedTrucks rest) (used-one (usedBy (visitAt p start)) stacks (omega (arith, block-length one)) (block-used one))
 
 -- the used trucks of the stacks visited from `end` on, how many they are and what they cost
 pub record Counted (i : Instance) (p : List Stack) (end count cost : ℕ) : Type 0 where

@@ -1,5 +1,5 @@
 -- Used trucks in the visiting order: the stacks of each stand together, by ascending number.
-use mathlib.Core.Path.{_≡_, sym, ap, subst, _∙_}
+use mathlib.Core.Path.{_≡_, refl, sym, ap, subst, _∙_}
 use mathlib.Core.Logic.{inl, inr, ⊎-elim}
 use mathlib.Core.Bool.{Bool, true, false, not}
 use mathlib.Core.List.{List, [], _∷_, _++_, map}
@@ -10,9 +10,9 @@ use borrow.Author.Tests.{not-true, not-false}
 use lib.ListN.{length, getD, drop, length-take, length-drop, length-map, take-append-drop}
 use lib.Seq.{getD-take, getD-drop, drop-drop}
 use Rattle.meaning.specs.declared.Limits.{Limits}
-use Rattle.meaning.specs.Lists.{In, Every}
+use Rattle.meaning.specs.Lists.{In, Every, any, filter, dedup}
 use Rattle.meaning.specs.Model.{Stack, number, truck, copy}
-use Rattle.meaning.specs.Measures.{UsedTruck, usedBy, sameUsed}
+use Rattle.meaning.specs.Measures.{UsedTruck, usedBy, sameUsed, usedTrucks, stacksOn}
 use Rattle.meaning.specs.Table.{instanceIn, stacksIn}
 use Rattle.meaning.specs.InRange.{StacksInRange}
 use Rattle.meaning.proofs.Tests.{true≢false, fails}
@@ -204,3 +204,21 @@ module _ {p : List Stack} {start end : ℕ} (h : OneTruck p start end) where
       let inside : end + v .0 < length p = omega (arith, v .1, length-drop end (visited p), visited-length p) in
       let there : r ≡ visitAt p (end + v .0) = v .2 ∙ getD-drop end (visited p) (v .0) noStack ∙ visited-at p (end + v .0) inside in
       rw (w .3, there) (parted .apart (w .0) (end + v .0) (w .2) (omega arith) inside)
+
+-- ---- stacks that are all on one used truck
+pub filter-all : {A : Type 0} (test : A → Bool) (l : List A) → Every (λ (a : A). test a ≡ true) l → filter test l ≡ l
+unfolding filter
+filter-all test [] h = refl
+filter-all test (a ∷ l) h = rw (h .0, filter-all test l (h .1)) refl
+
+pub used-one : (u : UsedTruck) (l : List Stack) → 0 < length l → Every (λ (s : Stack). usedBy s ≡ u) l → usedTrucks l ≡ u ∷ []
+unfolding usedTrucks dedup any
+used-one u [] some h = absurd (omega arith)
+used-one u (s ∷ []) some h = ap (λ (v : UsedTruck). v ∷ []) (h .0)
+used-one u (s ∷ r ∷ l) some h =
+    let same : sameUsed (usedBy s) (usedBy r) ≡ true = used-reads (usedBy s) (usedBy r) .1 (h .0 ∙ sym (h .1 .0)) in
+    rw same (used-one u (r ∷ l) (omega arith) (h .1))
+
+pub all-on : (u : UsedTruck) (l : List Stack) → Every (λ (s : Stack). usedBy s ≡ u) l → stacksOn l u ≡ l
+unfolding stacksOn
+all-on u l one = filter-all _ l (every-map _ _ (λ s e. used-reads u (usedBy s) .1 (sym e)) l one)
