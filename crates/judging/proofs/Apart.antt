@@ -2,12 +2,11 @@
 -- other, and so are the used trucks.
 use mathlib.Core.Path.{_≡_, refl, sym, ap, ap₂, _∙_}
 use mathlib.Core.Logic.{inl, inr}
-use mathlib.Core.Bool.{Bool, true, false, cond, not, _&&_, _||_}
+use mathlib.Core.Bool.{Bool, true, false, cond, not, _&&_, _||_, or-false}
 use mathlib.Core.List.{List, [], _∷_, _++_, map, flatMap, append-nil, append-assoc}
-use Prim.Native.Nat.{ℕ}
 use lib.Dec.{eqb}
 use Rattle.meaning.specs.declared.Place.{Place}
-use Rattle.meaning.specs.Lists.{any, filter, dedup, onlyIf, between, In, Every}
+use Rattle.meaning.specs.Lists.{any, filter, dedup, onlyIf, between, In}
 use Rattle.meaning.specs.Places.{place}
 use Rattle.meaning.specs.Model.{Instance, Truck, Stack, truckNumbered, number, x}
 use Rattle.meaning.specs.Measures.{UsedTruck, usedBy, sameUsed, usedTrucks, stacksOn, another, departures, stacksAt, supplierOrder}
@@ -82,10 +81,6 @@ module _ {A B : Type 0} where
       → flatMap g (l ++ l′) ≡ flatMap h l ++ flatMap k l′
   in-parts g h k l l′ e f = flatMap-append g l l′ ∙ ap₂ _++_ (flatMap-agree g h l e) (flatMap-agree g k l′ f)
 
-or-nothing : (a : Bool) → (a || false) ≡ a
-or-nothing true = refl
-or-nothing false = refl
-
 same-turned : (u v : UsedTruck) → sameUsed u v ≡ sameUsed v u
 same-turned u v = same-test (sameUsed u v) (sameUsed v u) ((λ e. used-reads v u .1 (sym (used-reads u v .0 e))), (λ e. used-reads u v .1 (sym (used-reads v u .0 e))))
 
@@ -126,7 +121,7 @@ module _ (i : Instance) (l l′ : List Stack) (apart : Apart l l′) where
   first-braced : (s : Stack) → In s l → braced i (l ++ l′) s ≡ braced i l s
   first-braced s m =
       ap (λ b. eqb (x s) 0 || b)
-      (any-append (bracedBy s) l l′ ∙ rw (any-none (bracedBy s) l′ (λ r n. no-brace s r (apart s r m n))) (or-nothing (any (bracedBy s) l)))
+      (any-append (bracedBy s) l l′ ∙ rw (any-none (bracedBy s) l′ (λ r n. no-brace s r (apart s r m n))) (or-false (any (bracedBy s) l)))
 
   second-braced : (r : Stack) → In r l′ → braced i (l ++ l′) r ≡ braced i l′ r
   second-braced r n =

@@ -1,7 +1,7 @@
 -- The lowest of some places: of two lists, of the same places in another order, and as a loop down a list finds it.
 use mathlib.Core.Path.{_≡_, refl, sym, ap, ap₂, _∙_}
 use mathlib.Core.Logic.{inl, inr, ⊎-elim}
-use mathlib.Core.Bool.{Bool, true, false, cond, _&&_, _||_}
+use mathlib.Core.Bool.{Bool, true, false, cond, _&&_, _||_, and-false, or-false}
 use mathlib.Core.Option.{Option, none, some}
 use mathlib.Core.List.{List, [], _∷_, _++_, flatMap}
 use Prim.Native.Nat.{ℕ, suc, _-_, _≤_, _<_}
@@ -21,21 +21,12 @@ use Rattle.search.specs.declared.Found.{Found}
 use Rattle.search.specs.declared.Found.the-variants.{At, Nothing}
 
 -- ---- the order of places, as the code tests it
-last-alone : (a b : Bool) → a ≡ (a || (b && false))
-last-alone true b = refl
-last-alone false true = refl
-last-alone false false = refl
-
 pub lower-tested : (p q : Place)
     → (ltb (p .first) (q .first)
     || (eqb (p .first) (q .first) && (ltb (p .second) (q .second) || (eqb (p .second) (q .second) && ltb (p .third) (q .third)))))
     ≡ lower p q
 unfolding lower belowOr
-lower-tested p q =
-    ap
-    (λ (last : Bool).
-    ltb (p .first) (q .first) || (eqb (p .first) (q .first) && (ltb (p .second) (q .second) || (eqb (p .second) (q .second) && last))))
-    (last-alone (ltb (p .third) (q .third)) (eqb (p .third) (q .third)))
+lower-tested p q = rw (and-false (eqb (p .third) (q .third)), or-false (ltb (p .third) (q .third))) refl
 
 pub second-lower : (p q : Place) → lower q p ≡ true → At q ≡ lowerFound (At p) (At q)
 second-lower p q e = rw e refl
