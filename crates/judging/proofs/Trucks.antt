@@ -1,10 +1,9 @@
 -- A search over the used trucks, from the last visited to the first: what is found so far is the lowest place among their stacks.
 use mathlib.Core.Path.{_≡_, refl, sym, ap, ap₂, _∙_}
-use mathlib.Core.List.{List, [], _++_, List·Permᴰ}
-use Prim.Native.Nat.{ℕ, _≤_, _<_}
+use mathlib.Core.List.{List, [], List·Permᴰ}
+use Prim.Native.Nat.{ℕ, _≤_}
 use native.Mathlib.Omega.{arith}
 use lib.ListN.{length, drop, drop-of-length-le}
-use Rattle.meaning.specs.declared.Place.{Place}
 use Rattle.meaning.specs.Model.{Instance, Stack}
 use Rattle.meaning.specs.Rules.{pairPlaces, stackPlaces, truckPlaces, departurePlaces, braced, noAmount, withinLoadLimit}
 use Rattle.meaning.proofs.Permute.{Same}

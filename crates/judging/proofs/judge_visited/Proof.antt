@@ -1,6 +1,5 @@
 -- `judging::judge_visited`: while the rules asked so far are kept, the answer is that of the rules from `verdict` on.
 use Prim.Native.Nat.{_-_}
-use native.Mathlib.Omega.{arith}
 use mathlib.Core.Path.{_∙_}
 use borrow.Author.Needs.{needs}
 use lib.ListN.{length}

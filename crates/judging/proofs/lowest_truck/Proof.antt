@@ -1,5 +1,4 @@
 -- `judging::lowest_truck`: each turn adds the lowest place of the used truck before `end` to what was found behind it.
-use native.Mathlib.Omega.{arith}
 use borrow.Author.Needs.{needs}
 use Rattle.meaning.specs.Table.{instanceIn, stacksIn}
 use Rattle.judging.proofs.Trucks.{DownTrucks, trucks-start, trucks-more, trucks-end}

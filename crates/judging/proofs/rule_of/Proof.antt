@@ -1,6 +1,6 @@
 -- `judging::rule_of`: at each number the list has the rule of that arm.
-use Prim.Native.Nat.{_≤_}
 use mathlib.Core.Path.{_≡_, refl}
+use Prim.Native.Nat.{ℕ, zero, suc, _+_, _≤_}
 use native.Mathlib.Omega.{arith}
 use Rattle.judging.proofs.rule_of.Statement.{statement}
 use Rattle.judging.proofs.rule_of.Tie as tie
@@ -59,14 +59,19 @@ returns-17 c = rw (c .match .keys17) refl
 returns-18 : tie.Need-returns-18
 returns-18 c = rw (c .match .keys18) refl
 
+-- v is none of the n numbers from 10 on
+abbrev Others : ℕ → ℕ → Type 0
+Others v zero = Unit {0}
+Others v (suc n) = Others v n × (v ≡ 10 + n → ⊥)
+
+beyond : (v n : ℕ) → 10 ≤ v → Others v n → 10 + n ≤ v
+beyond v zero h others = h
+beyond v (suc n) h others = omega (arith, beyond v n h (others .0), others .1)
+
 returns-19 : tie.Need-returns-19
 returns-19 c =
     let v = c .before .args .verdict in
-    let r = c .match .rest in
-    let past16 : 16 ≤ v = omega (arith, c .before .pre .0, r .0 .0 .0 .0 .0 .0 .0 .0 .0 .0 .0 .0 .0 .0 .0 .0 .0 .1, r .0 .0 .0 .0 .0 .0 .0 .0 .0 .0 .0 .0 .0 .0 .0 .0 .1, r .0 .0 .0 .0 .0 .0 .0 .0 .0 .0 .0 .0 .0 .0 .0 .1, r .0 .0 .0 .0 .0 .0 .0 .0 .0 .0 .0 .0 .0 .0 .1, r .0 .0 .0 .0 .0 .0 .0 .0 .0 .0 .0 .0 .0 .1, r .0 .0 .0 .0 .0 .0 .0 .0 .0 .0 .0 .0 .1) in
-    let past22 : 22 ≤ v = omega (arith, past16, r .0 .0 .0 .0 .0 .0 .0 .0 .0 .0 .0 .1, r .0 .0 .0 .0 .0 .0 .0 .0 .0 .0 .1, r .0 .0 .0 .0 .0 .0 .0 .0 .0 .1, r .0 .0 .0 .0 .0 .0 .0 .0 .1, r .0 .0 .0 .0 .0 .0 .0 .1, r .0 .0 .0 .0 .0 .0 .1) in
-    let past28 : 28 ≤ v = omega (arith, past22, r .0 .0 .0 .0 .0 .1, r .0 .0 .0 .0 .1, r .0 .0 .0 .1, r .0 .0 .1, r .0 .1, r .1) in
-    let e : v ≡ 28 = omega (arith, past28, c .before .pre .1) in
+    let e : v ≡ 28 = omega (arith, beyond v 18 (c .before .pre .0) (c .match .rest), c .before .pre .1) in
     rw e refl
 
 pub rule-of-spec : {M : Type 1} → statement M
