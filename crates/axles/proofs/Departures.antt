@@ -2,7 +2,7 @@
 use mathlib.Core.Path.{_≡_, refl, sym, ap, _∙_}
 use mathlib.Core.Bool.{Bool, not, _&&_}
 use mathlib.Core.List.{List, flatMap, append-nil}
-use Prim.Native.Nat.{ℕ, zero, suc, _+_, _-_, _≤_, _<_}
+use Prim.Native.Nat.{ℕ, _+_, _-_, _≤_, _<_}
 use native.Mathlib.Omega.{arith}
 use lib.Dec.{leb}
 use lib.IntN.{ℤ}
@@ -11,19 +11,19 @@ use mir.Syntax.{w64}
 use mir.Val.{SFits, toZ, ofZ}
 use Rattle.meaning.specs.declared.Limits.{Limits}
 use Rattle.meaning.specs.declared.Place.{Place}
-use Rattle.meaning.specs.Lists.{Every, onlyIf, upFrom}
+use Rattle.meaning.specs.Lists.{Every, onlyIf}
 use Rattle.meaning.specs.Places.{place}
 use Rattle.meaning.specs.Model.{Instance, Truck, Stack, truckNumbered, TMm, CM, CJfm, CJfc, CJfh, EM, EJhr, EMmr, EMmm}
 use Rattle.meaning.specs.Measures.{UsedTruck, usedBy, supplierOrder, stacksAt, departures, weightOn, H}
 use Rattle.meaning.specs.Rules.{truckPlaces, departurePlaces, counts, withinLoadLimit, middleAxleHolds, rearAxleHolds}
 use Rattle.meaning.specs.Table.{instanceIn, stacksIn}
 use Rattle.meaning.proofs.Tests.{between-reads}
-use Rattle.meaning.proofs.Lists.{every-map, every-reads}
+use Rattle.meaning.proofs.Lists.{every-map, every-reads, in-at, length-upFrom, upFrom-at}
 use Rattle.table.specs.Filled.{Filled, noStack}
 use Rattle.search.specs.Lowest.{lowestIn}
 use Rattle.visits.specs.Visits.{visitOrder, visitAt, block, OneTruck}
-use Rattle.visits.proofs.Order.{length-upFrom, order-within}
-use Rattle.visits.proofs.UsedTrucks.{in-at, block-length, block-at, block-used, filter-all, used-one, all-on}
+use Rattle.visits.proofs.Order.{order-within}
+use Rattle.visits.proofs.UsedTrucks.{block-length, block-at, block-used, filter-all, used-one, all-on}
 use Rattle.visits.proofs.RowMost.{row-most}
 use Rattle.axles.specs.Aboard.{aboard, middleHolds, rearHolds}
 use Rattle.axles.proofs.Signed.{stored}
@@ -74,13 +74,6 @@ orders-few {m} {t} {start} {end} filled h =
     let inside : w .0 < end - start = omega (arith, w .1, block-length h) in
     let place = order-within p (start + w .0) (omega (arith, h .within)) in
     rw (w .2, block-at h (w .0) inside) (row-most filled (getD (visitOrder p) (start + w .0) 0) place 12))
-
--- ---- numbers counted up
-upFrom-at : (a n k d : ℕ) → k < n → getD (upFrom a n) k d ≡ a + k
-unfolding upFrom
-upFrom-at a zero k d h = absurd (omega arith)
-upFrom-at a (suc n) zero d h = omega arith
-upFrom-at a (suc n) (suc k) d h = upFrom-at (suc a) n k d (omega arith) ∙ omega arith
 
 -- ---- the places of the used truck whose stacks are visited from `start` up to `end`
 module _ (i : Instance) {p : List Stack} {start end : ℕ} (h : OneTruck p start end) where

@@ -1,9 +1,8 @@
 -- A plan in two parts that share no used truck: the places where a rule on used trucks is broken are those of the one part and those of the
 -- other, and so are the used trucks.
 use mathlib.Core.Path.{_≡_, refl, sym, ap, ap₂, _∙_}
-use mathlib.Core.Logic.{inl, inr}
-use mathlib.Core.Bool.{Bool, true, false, cond, not, _&&_, _||_, or-false}
-use mathlib.Core.List.{List, [], _∷_, _++_, map, flatMap, append-nil, append-assoc}
+use mathlib.Core.Bool.{Bool, false, not, _&&_, _||_, or-false}
+use mathlib.Core.List.{List, [], _++_, map, flatMap, append-nil, map-append}
 use lib.Dec.{eqb}
 use Rattle.meaning.specs.declared.Place.{Place}
 use Rattle.meaning.specs.Lists.{any, filter, dedup, onlyIf, between, In}
@@ -12,7 +11,7 @@ use Rattle.meaning.specs.Model.{Instance, Truck, Stack, truckNumbered, number, 
 use Rattle.meaning.specs.Measures.{UsedTruck, usedBy, sameUsed, usedTrucks, stacksOn, another, departures, stacksAt, supplierOrder}
 use Rattle.meaning.specs.Rules.{pairPlaces, stackPlaces, truckPlaces, departurePlaces, counts, braced, braces, noAmount}
 use Rattle.meaning.proofs.Tests.{same-test}
-use Rattle.meaning.proofs.Lists.{flatMap-none, in-map}
+use Rattle.meaning.proofs.Lists.{any-none, filter-none, any-append, filter-append, dedup-append, in-map, flatMap-none, flatMap-append, flatMap-agree}
 use Rattle.meaning.proofs.RuleKinds.{used-reads}
 use Rattle.meaning.proofs.Levers.{in-used}
 use Rattle.judging.specs.Judging.{truckRulePlaces}
@@ -20,62 +19,7 @@ use Rattle.judging.specs.declared.TruckRule.{TruckRule}
 use Rattle.judging.specs.declared.TruckRule.the-variants.{EachPair, Unbraced, Overload, EachDeparture}
 
 -- ---- lists in two parts
-module _ {A : Type 0} where
-  any-append : (test : A → Bool) (l l′ : List A) → any test (l ++ l′) ≡ (any test l || any test l′)
-  unfolding any
-  any-append test [] l′ = refl
-  any-append test (a ∷ l) l′ = go (test a) (any-append test l l′)
-    where
-      go : (t : Bool) → any test (l ++ l′) ≡ (any test l || any test l′) → (t || any test (l ++ l′)) ≡ ((t || any test l) || any test l′)
-      go true e = refl
-      go false e = e
-
-  any-none : (test : A → Bool) (l : List A) → ((a : A) → In a l → test a ≡ false) → any test l ≡ false
-  unfolding any
-  any-none test [] none = refl
-  any-none test (a ∷ l) none = ap₂ _||_ (none a (inl refl)) (any-none test l (λ b m. none b (inr m)))
-
-  filter-append : (test : A → Bool) (l l′ : List A) → filter test (l ++ l′) ≡ filter test l ++ filter test l′
-  unfolding filter
-  filter-append test [] l′ = refl
-  filter-append test (a ∷ l) l′ = go (test a) (filter-append test l l′)
-    where
-      go : (t : Bool) → filter test (l ++ l′) ≡ filter test l ++ filter test l′
-          → cond t (a ∷ filter test (l ++ l′)) (filter test (l ++ l′)) ≡ cond t (a ∷ filter test l) (filter test l) ++ filter test l′
-      go true e = ap (λ (z : List A). a ∷ z) e
-      go false e = e
-
-  filter-none : (test : A → Bool) (l : List A) → ((a : A) → In a l → test a ≡ false) → filter test l ≡ []
-  unfolding filter
-  filter-none test [] none = refl
-  filter-none test (a ∷ l) none = rw (none a (inl refl)) (filter-none test l (λ b m. none b (inr m)))
-
-  dedup-append : (same : A → A → Bool) (l l′ : List A) → ((a : A) → In a l → any (same a) l′ ≡ false) → dedup same (l ++ l′) ≡ dedup same l ++ dedup same l′
-  unfolding dedup
-  dedup-append same [] l′ none = refl
-  dedup-append same (a ∷ l) l′ none =
-      rw (any-append (same a) l l′, none a (inl refl)) (go (any (same a) l) (dedup-append same l l′ (λ b m. none b (inr m))))
-    where
-      go : (t : Bool) → dedup same (l ++ l′) ≡ dedup same l ++ dedup same l′
-          → cond (t || false) (dedup same (l ++ l′)) (a ∷ dedup same (l ++ l′)) ≡ cond t (dedup same l) (a ∷ dedup same l) ++ dedup same l′
-      go true e = e
-      go false e = ap (λ (z : List A). a ∷ z) e
-
-map-append : {A B : Type 0} (f : A → B) (l l′ : List A) → map f (l ++ l′) ≡ map f l ++ map f l′
-map-append f [] l′ = refl
-map-append {B = B} f (a ∷ l) l′ = ap (λ (z : List B). f a ∷ z) (map-append f l l′)
-
 module _ {A B : Type 0} where
-  pub flatMap-append : (g : A → List B) (l l′ : List A) → flatMap g (l ++ l′) ≡ flatMap g l ++ flatMap g l′
-  unfolding flatMap
-  flatMap-append g [] l′ = refl
-  flatMap-append g (a ∷ l) l′ = ap (λ (z : List B). g a ++ z) (flatMap-append g l l′) ∙ sym (append-assoc (g a) (flatMap g l) (flatMap g l′))
-
-  flatMap-agree : (g h : A → List B) (l : List A) → ((a : A) → In a l → g a ≡ h a) → flatMap g l ≡ flatMap h l
-  unfolding flatMap
-  flatMap-agree g h [] e = refl
-  flatMap-agree g h (a ∷ l) e = ap₂ _++_ (e a (inl refl)) (flatMap-agree g h l (λ b m. e b (inr m)))
-
   -- where each element has the same in a part as in the whole
   in-parts : (g h k : A → List B) (l l′ : List A) → ((a : A) → In a l → g a ≡ h a) → ((a : A) → In a l′ → g a ≡ k a)
       → flatMap g (l ++ l′) ≡ flatMap h l ++ flatMap k l′

@@ -1,47 +1,30 @@
 -- Cost and used trucks: a sum that is counted down a list, how large the inventory cost can be, and the used trucks of a plan one by one.
 use mathlib.Core.Path.{_≡_, refl, sym, ap, _∙_}
-use mathlib.Core.List.{List, [], _∷_, _++_, flatMap}
-use Prim.Native.Nat.{ℕ, zero, suc, _+_, _-_, _*_, _≤_, _<_}
+use mathlib.Core.List.{List, [], _∷_, _++_}
+use Prim.Native.Nat.{ℕ, _+_, _-_, _*_, _≤_, _<_}
 use native.Mathlib.Nat.{le-trans, mul-le-mul}
 use native.Mathlib.Omega.{arith}
 use borrow.Author.Tests.{ne-eqb}
-use lib.ListN.{length, getD, drop, drop-of-length-le, length-append}
-use lib.Seq.{drop-cons}
+use lib.ListN.{length, getD, drop, drop-of-length-le}
 use Rattle.meaning.specs.declared.Limits.{Limits}
 use Rattle.meaning.specs.Lists.{dedup, sum}
 use Rattle.meaning.specs.Model.{Instance, Stack, item, truckNumbered, truckOf, truck, copy, IC, IDL, TC, TDA}
 use Rattle.meaning.specs.Measures.{UsedTruck, usedBy, usedTrucks}
-use Rattle.meaning.specs.Table.{instanceIn, stacksIn, loadEntries}
+use Rattle.meaning.specs.Table.{stacksIn}
 use Rattle.meaning.specs.Verdict.{acceptance, daysEarly, transportCost, inventoryCost, cost}
+use Rattle.meaning.proofs.Lists.{drop-back}
+use Rattle.meaning.proofs.Sums.{sum-drop, sum-constant}
 use Rattle.meaning.proofs.Permute.{length-perm, sum-perm}
-use Rattle.meaning.proofs.Ranges.{in-range-fits}
 use Rattle.meaning.proofs.VerdictOrder.{usedTrucks-perm}
 use Rattle.table.specs.Filled.{Filled}
+use Rattle.table.proofs.Access.{per-entry-most}
 use Rattle.visits.specs.Visits.{visitAt, visited, block, OneTruck, Parted}
 use Rattle.visits.proofs.Order.{visited-length, visited-perm}
 use Rattle.visits.proofs.UsedTrucks.{parted-end, block-split, block-length, block-used, block-apart, used-one}
 use Rattle.judging.specs.Judging.{usedTruck}
 use Rattle.judging.proofs.Apart.{used-apart}
 
--- ---- sums
-module _ {A : Type 0} where
-  sum-drop : (g : A → ℕ) (j : ℕ) (l : List A) → sum g (drop j l) ≤ sum g l
-  unfolding sum
-  sum-drop g zero l = omega arith
-  sum-drop g (suc j) [] = omega arith
-  sum-drop g (suc j) (a ∷ l) = omega (arith, sum-drop g j l)
-
-  sum-constant : (k : ℕ) (l : List A) → sum (λ (a : A). k) l ≡ k * length l
-  unfolding sum
-  sum-constant k [] = omega arith
-  sum-constant k (a ∷ l) = omega (arith, sum-constant k l)
-
-rest-more : {A : Type 0} (l : List A) (j : ℕ) (d : A) → 0 < j → j ≤ length l → drop (j - 1) l ≡ getD l (j - 1) d ∷ drop j l
-rest-more l j d h k =
-    let inside : j - 1 < length l = omega arith in
-    let next : suc (j - 1) ≡ j = omega arith in
-    drop-cons l (j - 1) d inside ∙ ap (λ n. getD l (j - 1) d ∷ drop n l) next
-
+-- ---- a sum, counted down
 -- the terms of the elements from j on, of which none is above its bound
 pub record Summed {A : Type 0} (term bound : A → ℕ) (l : List A) (j total : ℕ) : Type 0 where
   pub upto : j ≤ length l
@@ -60,7 +43,7 @@ module _ {A : Type 0} {term bound : A → ℕ} {l : List A} where
       → Summed term bound l (j - 1) (r + total)
   unfolding sum
   summed-more d {j} {total} {r} h k e b =
-      let split = rest-more l j d k (h .upto) in
+      let split = drop-back l j d k (h .upto) in
       record {
         upto = omega arith;
         is = omega (arith, ap (sum term) split);
@@ -69,7 +52,7 @@ module _ {A : Type 0} {term bound : A → ℕ} {l : List A} where
 
   pub summed-room : (d : A) {j total r : ℕ} → Summed term bound l j total → 0 < j → r ≤ bound (getD l (j - 1) d) → r + total ≤ sum bound l
   unfolding sum
-  summed-room d {j} h k b = omega (arith, ap (sum bound) (rest-more l j d k (h .upto)), sum-drop bound (j - 1) l)
+  summed-room d {j} h k b = omega (arith, ap (sum bound) (drop-back l j d k (h .upto)), sum-drop bound (j - 1) l)
 
   pub summed-end : {j total : ℕ} → Summed term bound l j total → j ≤ 0 → (total ≡ sum term l) × (total ≤ sum bound l)
   summed-end {j} h k =
@@ -99,16 +82,9 @@ item-bound h k few = mul-le-mul h (le-trans k few)
 pub load-bound : (s : Stack) → sum itemBound (s .load) ≡ stackBound s
 load-bound s = sum-constant 39900000 (s .load)
 
-loads-bound : (p : List Stack) → sum stackBound p ≡ 39900000 * length (loadEntries p)
-unfolding sum loadEntries flatMap
-loads-bound [] = refl
-loads-bound (s ∷ p) = omega (arith, length-append (s .load) (loadEntries p), loads-bound p)
-
 -- all loads together hold at most 65536 entries
 pub plan-bound : {m : Limits} {t : List ℕ} → Filled m t → sum stackBound (stacksIn m t) ≤ 2614886400000
-plan-bound {m} {t} h =
-    let p = stacksIn m t in
-    omega (arith, loads-bound p, in-range-fits m (instanceIn m t) p (h .range) .loads)
+plan-bound h = per-entry-most h 39900000
 
 -- ---- the transport cost
 pub planned-cost : (i : Instance) (n : ℕ) {copy cost : ℕ} → cost ≡ TC (truckNumbered i n) → copy ≡ 0 → cost * 1000 ≡ transportCost i (usedTruck n copy)

@@ -2,7 +2,7 @@
 use mathlib.Core.Path.{_≡_, refl, sym, ap, _∙_}
 use mathlib.Core.Option.{Option, none, some}
 use mathlib.Core.List.{List, [], _∷_, map}
-use Prim.Native.Nat.{ℕ, zero, suc, _+_, _-_, _≤_, _<_}
+use Prim.Native.Nat.{ℕ, suc, _+_, _-_, _≤_, _<_}
 use native.Mathlib.Omega.{arith}
 use lib.ListN.{length, getD, drop, length-drop, drop-of-length-le}
 use lib.Seq.{drop-cons, getD-drop}
@@ -15,6 +15,7 @@ use Rattle.meaning.specs.Rules as meant
 use Rattle.meaning.specs.Rules.{rules, itemRules, stackRules, placementRules, weightRules, notOnce}
 use Rattle.meaning.specs.Verdict.{refusal, brokenOr, firstBroken, verdictOn, acceptance, cost}
 use Rattle.meaning.specs.Measures.{usedTrucks}
+use Rattle.meaning.proofs.Lists.{upFrom-at}
 use Rattle.table.proofs.Parts.{map-at}
 use Rattle.search.specs.Lowest.{foundOf, lowestIn}
 use Rattle.search.specs.declared.Found.{Found}
@@ -33,11 +34,11 @@ some-back (some q) p e = cc
 
 -- ---- one rule of the table
 module _ (r : meant.Rule) (rs : List meant.Rule) (i : Instance) (p : List Stack) (kept : Answer) where
-  pub rule-broken : (q : Place) → At q ≡ lowestIn (r .places i p) → refusal (r .verdict) q ≡ firstBroken (r ∷ rs) i p kept
+  rule-broken : (q : Place) → At q ≡ lowestIn (r .places i p) → refusal (r .verdict) q ≡ firstBroken (r ∷ rs) i p kept
   unfolding firstBroken lowestIn brokenOr
   rule-broken q e = rw (some-back (lowest (r .places i p)) q e) refl
 
-  pub rule-kept : Nothing ≡ lowestIn (r .places i p) → firstBroken (r ∷ rs) i p kept ≡ firstBroken rs i p kept
+  rule-kept : Nothing ≡ lowestIn (r .places i p) → firstBroken (r ∷ rs) i p kept ≡ firstBroken rs i p kept
   unfolding firstBroken lowestIn brokenOr
   rule-kept e = rw (none-back (lowest (r .places i p)) e) refl
 
@@ -53,12 +54,6 @@ verdicts-named = refl
 rules-length : length rules ≡ 20
 unfolding rules itemRules stackRules placementRules weightRules
 rules-length = refl
-
-upFrom-at : (a n k : ℕ) → k < n → getD (upFrom a n) k 0 ≡ a + k
-unfolding upFrom
-upFrom-at a zero k h = absurd (omega arith)
-upFrom-at a (suc n) zero h = omega arith
-upFrom-at a (suc n) (suc k) h = upFrom-at (suc a) n k (omega arith) ∙ (let e : suc a + k ≡ a + suc k = omega arith in e)
 
 -- stands in for a row that the table does not have
 noRule : meant.Rule
@@ -79,7 +74,7 @@ module _ (v : ℕ) (from : 10 ≤ v) (upto : v ≤ 28) where
   row-verdict =
       let e : 10 + (v - 10) ≡ v = omega arith in
       ap (λ (r : meant.Rule). r .verdict) later-row ∙ sym (map-at (λ (r : meant.Rule). r .verdict) (drop 1 rules) (v - 10) noRule 0 later-within)
-      ∙ ap (λ (l : List ℕ). getD l (v - 10) 0) verdicts-named ∙ upFrom-at 10 19 (v - 10) (omega arith) ∙ e
+      ∙ ap (λ (l : List ℕ). getD l (v - 10) 0) verdicts-named ∙ upFrom-at 10 19 (v - 10) 0 (omega arith) ∙ e
 
   row-places : tableRow v .places ≡ rulePlaces (ruleOf v)
   row-places =

@@ -1,6 +1,6 @@
 -- From one answer to the next: readers one after another, and the same reader some times over, for callers that hand an answer on.
 use mathlib.Core.Path.{_≡_, refl, sym, ap, subst, _∙_}
-use mathlib.Core.List.{List, [], _∷_, _++_, flatMap, append-assoc, append-nil}
+use mathlib.Core.List.{List, [], _∷_, _++_, append-assoc, append-nil}
 use Prim.Native.Nat.{ℕ, zero, suc}
 use native.Mathlib.Omega.{arith}
 use lib.ListN.{length, drop}
@@ -118,12 +118,6 @@ read-within file reader words p r out whole i =
     record { value = i .value; says = i .says; holds = λ g. ap whole (i .holds g); sound = i .sound }
 
 -- ---- the same reader some times over
--- the words of one value more
-pub flatMap-more : {A : Type 0} (w : A → List ℕ) (vs : List A) (v : A) → flatMap w vs ++ w v ≡ flatMap w (vs ++ v ∷ [])
-unfolding flatMap
-flatMap-more w [] v = sym (append-nil (w v))
-flatMap-more w (a ∷ vs) v = append-assoc (w a) (flatMap w vs) (w v) ∙ ap (λ (l : List ℕ). w a ++ l) (flatMap-more w vs v)
-
 module _ {A : Type 0} (R : Reader A) where
   -- m times more, behind the values that were read
   abbrev pub more : ℕ → List A → Reader (List A)

@@ -9,7 +9,7 @@ use lib.ListN.{length, getD, drop, drop-of-length-le}
 use Rattle.meaning.specs.Lists.{any, all, between, listed, distinct}
 use Rattle.meaning.specs.Files.{allWithin}
 use Rattle.meaning.proofs.Tests.{fails, between-reads}
-use Rattle.text.proofs.Bytes.{drop-next}
+use Rattle.meaning.proofs.Lists.{drop-next}
 use Rattle.lines.specs.Progress.{ranges}
 
 -- ---- one word and its range
@@ -29,42 +29,42 @@ module _ (ws : List ℕ) (i : ℕ) (h : i < length ws) where
   module _ (test : ℕ → Bool) where
     pub all-on : test (getD ws i 0) ≡ true → all test (drop i ws) ≡ all test (drop (i + 1) ws)
     unfolding all
-    all-on e = rw (drop-next ws i h) (simp e)
+    all-on e = rw (drop-next ws i 0 h) (simp e)
 
     pub all-off : test (getD ws i 0) ≡ false → all test (drop i ws) ≡ false
     unfolding all
-    all-off e = rw (drop-next ws i h) (simp e)
+    all-off e = rw (drop-next ws i 0 h) (simp e)
 
   -- whether a word is among them
   module _ (n : ℕ) where
     pub listed-here : getD ws i 0 ≡ n → listed n (drop i ws) ≡ true
     unfolding any
-    listed-here e = rw (drop-next ws i h) (simp (eq-eqb _ _ (sym e)))
+    listed-here e = rw (drop-next ws i 0 h) (simp (eq-eqb _ _ (sym e)))
 
     pub listed-on : (getD ws i 0 ≡ n → ⊥) → listed n (drop i ws) ≡ listed n (drop (i + 1) ws)
     unfolding any
-    listed-on f = rw (drop-next ws i h) (simp (ne-eqb n (getD ws i 0) (λ e. f (sym e))))
+    listed-on f = rw (drop-next ws i 0 h) (simp (ne-eqb n (getD ws i 0) (λ e. f (sym e))))
 
   -- whether they are distinct
   pub distinct-on : listed (getD ws i 0) (drop (i + 1) ws) ≡ false → distinct (drop i ws) ≡ distinct (drop (i + 1) ws)
   unfolding distinct
-  distinct-on e = rw (drop-next ws i h) (simp e)
+  distinct-on e = rw (drop-next ws i 0 h) (simp e)
 
   pub distinct-off : listed (getD ws i 0) (drop (i + 1) ws) ≡ true → distinct (drop i ws) ≡ false
   unfolding distinct
-  distinct-off e = rw (drop-next ws i h) (simp e)
+  distinct-off e = rw (drop-next ws i 0 h) (simp e)
 
   -- each word in its range
   module _ (lows highs : List ℕ) (l : i < length lows) (k : i < length highs) where
     pub within-on : between (getD lows i 0) (getD highs i 0) (getD ws i 0) ≡ true
         → allWithin (ranges (drop i lows) (drop i highs)) (drop i ws) ≡ allWithin (ranges (drop (i + 1) lows) (drop (i + 1) highs)) (drop (i + 1) ws)
     unfolding allWithin ranges
-    within-on e = rw (drop-next ws i h, drop-next lows i l, drop-next highs i k) (simp e)
+    within-on e = rw (drop-next ws i 0 h, drop-next lows i 0 l, drop-next highs i 0 k) (simp e)
 
     pub within-off : between (getD lows i 0) (getD highs i 0) (getD ws i 0) ≡ false
         → allWithin (ranges (drop i lows) (drop i highs)) (drop i ws) ≡ false
     unfolding allWithin ranges
-    within-off e = rw (drop-next ws i h, drop-next lows i l, drop-next highs i k) (simp e)
+    within-off e = rw (drop-next ws i 0 h, drop-next lows i 0 l, drop-next highs i 0 k) (simp e)
 
 -- ---- behind the last word
 module _ (ws : List ℕ) (i : ℕ) (h : length ws ≤ i) where

@@ -10,7 +10,7 @@ use native.Mathlib.Omega.{arith}
 use lib.Dec.{leb}
 use lib.ListN.{length, length-append}
 use Rattle.meaning.specs.declared.Limits.{Limits}
-use Rattle.meaning.specs.Lists.{any, all, listed, between, sum, In, Every}
+use Rattle.meaning.specs.Lists.{any, all, listed, between, In, Every}
 use Rattle.meaning.specs.Text.{lineNumbers}
 use Rattle.meaning.specs.Reader.{Outcome, found, wrongForm, outOfRange, onward, line}
 use Rattle.meaning.specs.Model.{Instance, Stack, number, stackNumber}
@@ -22,6 +22,7 @@ use Rattle.meaning.specs.Print.{printedLine, printedStack, printedPlan}
 use Rattle.meaning.specs.Claims.{Readable, OrderFree, AnyOrder}
 use Rattle.meaning.proofs.Tests.{and-reads, not-reads, le-reads}
 use Rattle.meaning.proofs.Lists.{listed-reads}
+use Rattle.meaning.proofs.Sums.{length-flatMap}
 use Rattle.meaning.proofs.Permute.{perm-induct, perm-same, every-perm, length-perm, sum-perm, map-perm}
 use Rattle.meaning.proofs.Outcomes.{Leaves, Finds, leaves-onward, leaves-map, OfLine, leaves-ended, finds-ended}
 use Rattle.meaning.proofs.ReadFiles.{Wholly, read-reads}
@@ -161,11 +162,6 @@ module _ (most items trucks : ℕ) where
       )
 
 -- ---- the whole plan
-length-flatMap : {A : Type 0} (g : A → List ℕ) (l : List A) → length (flatMap g l) ≡ sum (λ a. length (g a)) l
-unfolding flatMap sum
-length-flatMap g [] = refl
-length-flatMap g (a ∷ l) = rw (length-append, length-flatMap g l)
-
 -- a line with one number is read alike, whatever follows it
 number-alike : (key : String) (r : Range) (l rest : List ℕ) (n : ℕ) → OneLine l
     → Leaves (λ c left. (left ≡ rest) × ((rest′ : List ℕ) → numberLine key r n (ended l ++ rest′) ≡ found c (suc n) rest′)) (numberLine key r n (ended l ++ rest))

@@ -1,20 +1,20 @@
 -- Rule 22 says of a stack that it ends on the floor and that its height, worked out in signed numbers, is at most the limit.
-use mathlib.Core.Path.{_≡_, refl, ap₂, _∙_}
-use mathlib.Core.Logic.{inl, inr, _↔_}
+use mathlib.Core.Path.{_≡_, ap₂, _∙_}
+use mathlib.Core.Logic.{_↔_}
 use mathlib.Core.Bool.{true, _&&_}
-use mathlib.Core.List.{List, [], _∷_}
+use mathlib.Core.List.{List, []}
 use Prim.Native.Nat.{ℕ, _-_, _≤_}
 use native.Mathlib.Omega.{arith}
 use borrow.Author.Tests.{leb-true, le-leb}
 use lib.IntN.{pos, _-ℤ_}
 use lib.Signed.{_≤ℤ_}
-use lib.ListN.{drop}
 use Rattle.meaning.specs.Lists.{In, sum}
 use Rattle.meaning.specs.Model.{Instance, Stack, item, truckOf, IH, nesting, TL, TW, TH}
 use Rattle.meaning.specs.Measures.{above, xe, ye, height}
 use Rattle.meaning.specs.Rules.{stackPlaces, withinLength, withinWidth, withinHeight, inside, exceededSide}
 use Rattle.meaning.specs.Feasible.{heightOf}
 use Rattle.meaning.proofs.Tests.{and-reads}
+use Rattle.meaning.proofs.Sums.{sum-below, sum-drop}
 use Rattle.meaning.proofs.RuleKinds.{stacks-kept}
 use Rattle.meaning.proofs.Ring.{same-less, ring}
 use Rattle.meaning.proofs.SignedSums.{sum-signed, le-signed}
@@ -24,16 +24,6 @@ use Rattle.meaning.proofs.Sound.{SoundStack, Sound}
 minus-signed : (a b : ℕ) → b ≤ a → pos a -ℤ pos b ≡ pos (a - b)
 minus-signed a b h = simp ring (same-less _ _ _ _ (omega arith))
 
-pub sum-below : (f g : ℕ → ℕ) (l : List ℕ) → ((n : ℕ) → In n l → f n ≤ g n) → sum f l ≤ sum g l
-unfolding sum
-sum-below f g [] h = omega arith
-sum-below f g (n ∷ l) h = let k = sum-below f g l (λ m e. h m (inr e)) in omega (arith, h n (inl refl), k)
-
-pub sum-tail : (f : ℕ → ℕ) (l : List ℕ) → sum f (drop 1 l) ≤ sum f l
-unfolding sum
-sum-tail f [] = omega arith
-sum-tail f (n ∷ l) = omega arith
-
 -- an item nests no deeper than it is high, so nothing is cut off in the rule's difference
 height-signed : (i : Instance) (s : Stack) → SoundStack i s → heightOf i s ≡ pos (height i s)
 unfolding height
@@ -41,7 +31,7 @@ height-signed i s h =
     let high : ℕ → ℕ = λ n. IH (item i n) in
     let deep : ℕ → ℕ = λ n. nesting (item i n) in
     ap₂ _-ℤ_ (sum-signed high (s .load)) (sum-signed deep (above s))
-    ∙ minus-signed (sum high (s .load)) (sum deep (above s)) (omega (arith, sum-tail deep (s .load), sum-below deep high (s .load) (h .nested)))
+    ∙ minus-signed (sum high (s .load)) (sum deep (above s)) (omega (arith, sum-drop deep 1 (s .load), sum-below deep high (s .load) (h .nested)))
 
 module _ (i : Instance) (p : List Stack) (sound : Sound i p) where
   -- 22 outside, by its three dimensions

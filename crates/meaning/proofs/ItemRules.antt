@@ -16,7 +16,7 @@ use Rattle.meaning.specs.Measures.{docksOf, supplierDockOrder, plantDock
 use Rattle.meaning.specs.Rules.{itemPlaces, timesLoaded, notOnce, plantMatches, productCarried, supplierVisited, arrivesInWindow, docksServed}
 use Rattle.meaning.specs.Feasible.{Stands, Once, ItemFits}
 use Rattle.meaning.proofs.Tests.{and-reads, le-reads, between-reads, iff-trans, iff-both}
-use Rattle.meaning.proofs.Lists.{in-filter, in-upFrom, flatMap-none, unless-none, listed-reads}
+use Rattle.meaning.proofs.Lists.{in-filter, filter-append, in-upFrom, flatMap-none, unless-none, listed-reads}
 use Rattle.meaning.proofs.Orders.{stands-first, stands-later, stands-cases, stands-in, order-in, order-stands, stands-order, row-at}
 use Rattle.meaning.proofs.RuleKinds.{items-kept}
 use Rattle.meaning.proofs.Sound.{Sound}
@@ -26,16 +26,6 @@ abbrev times : ℕ → List ℕ → ℕ
 times n l = length (filter (eqb n) l)
 
 -- two lists joined: their counts add up
-filter-append : {A : Type 0} (test : A → Bool) (l l′ : List A) → filter test (l ++ l′) ≡ filter test l ++ filter test l′
-unfolding filter
-filter-append test [] l′ = refl
-filter-append {A} test (a ∷ l) l′ = go (test a) (filter-append test l l′)
-  where
-    go : (t : Bool) → filter test (l ++ l′) ≡ filter test l ++ filter test l′
-        → cond t (a ∷ filter test (l ++ l′)) (filter test (l ++ l′)) ≡ cond t (a ∷ filter test l) (filter test l) ++ filter test l′
-    go true e = ap (λ (r : List A). a ∷ r) e
-    go false e = e
-
 times-append : (n : ℕ) (l l′ : List ℕ) → times n (l ++ l′) ≡ times n l + times n l′
 times-append n l l′ = ap length (filter-append (eqb n) l l′) ∙ length-append (filter (eqb n) l) (filter (eqb n) l′)
 

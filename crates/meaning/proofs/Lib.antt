@@ -1,6 +1,7 @@
 pub mod Answers
 pub mod Tests
 pub mod Lists
+pub mod Sums
 pub mod Orders
 pub mod Permute
 pub mod Ring

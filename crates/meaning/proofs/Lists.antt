@@ -1,14 +1,16 @@
--- Members of the lists that the definitions make, and lists that have none.
-use mathlib.Core.Path.{_≡_, refl, sym, ap, subst, _∙_}
+-- Members of the lists that the definitions make, lists that have none, lists in two parts, and the rest of a list from a place on.
+use mathlib.Core.Path.{_≡_, refl, sym, ap, ap₂, subst, _∙_}
 use mathlib.Core.Logic.{_⊎_, inl, inr, ⊎-elim, _↔_}
-use mathlib.Core.Bool.{Bool, true, false, cond, not, _&&_}
-use mathlib.Core.List.{List, [], _∷_, _++_, map, flatMap}
-use Prim.Native.Nat.{ℕ, zero, suc, _+_, _≤_, _<_}
+use mathlib.Core.Bool.{Bool, true, false, cond, not, _&&_, _||_}
+use mathlib.Core.List.{List, [], _∷_, _++_, map, flatMap, append-nil, append-assoc}
+use Prim.Native.Nat.{ℕ, zero, suc, _+_, _-_, _≤_, _<_}
 use native.Mathlib.Nat.{eq-or-lt-of-le}
+use native.Mathlib.Numerals.{add-one}
 use native.Mathlib.Omega.{arith}
 use borrow.Author.Tests.{eqb-true, eq-eqb}
 use lib.Dec.{eqb}
-use lib.ListN.{length, getD}
+use lib.ListN.{length, getD, drop}
+use lib.Seq.{drop-cons}
 use Rattle.meaning.specs.Lists.{any, all, filter, dedup, onlyIf, upFrom, In, Every, listed, distinct}
 use Rattle.meaning.proofs.Tests.{true≢false, and-reads, or-reads, not-reads, iff-trans, iff-both, iff-not}
 
@@ -91,6 +93,23 @@ module _ {A : Type 0} where
   at-in (a ∷ l) d zero k = inl refl
   at-in (a ∷ l) d (suc n) k = inr (at-in l d n (omega arith))
 
+  pub in-at : (d : A) (l : List A) (a : A) → In a l → (n : ℕ) × (n < length l) × (a ≡ getD l n d)
+  in-at d [] a m = absurd m
+  in-at d (b ∷ l) a (inl e) = (0, omega arith, e)
+  in-at d (b ∷ l) a (inr m) = let w = in-at d l a m in (suc (w .0), omega (arith, w .1), w .2)
+
+  -- ---- the rest of a list from a place on: the element there, and the rest behind it
+  module _ (l : List A) (j : ℕ) (d : A) where
+    pub drop-next : j < length l → drop j l ≡ getD l j d ∷ drop (j + 1) l
+    drop-next h = rw (add-one, drop-cons l j d)
+
+    -- the same from the place before j
+    pub drop-back : 0 < j → j ≤ length l → drop (j - 1) l ≡ getD l (j - 1) d ∷ drop j l
+    drop-back h k =
+        let inside : j - 1 < length l = omega arith in
+        let next : suc (j - 1) ≡ j = omega arith in
+        drop-cons l (j - 1) d inside ∙ ap (λ (n : ℕ). getD l (j - 1) d ∷ drop n l) next
+
   -- ---- no element
   pub append-none : (l l′ : List A) → (l ++ l′ ≡ []) ↔ ((l ≡ []) × (l′ ≡ []))
   append-none [] l′ = ((λ e. (refl, e)), (λ h. h .1))
@@ -110,6 +129,50 @@ module _ {A : Type 0} where
   among-none true true a = ((λ e k. refl), (λ f. refl))
   among-none true false a = ((λ e k. absurd (no-cons a [] e)), (λ f. absurd (true≢false (sym (f refl)))))
   among-none false c a = ((λ e k. absurd (true≢false (sym k))), (λ f. refl))
+
+  -- no element passes the test
+  pub any-none : (test : A → Bool) (l : List A) → ((a : A) → In a l → test a ≡ false) → any test l ≡ false
+  unfolding any
+  any-none test [] none = refl
+  any-none test (a ∷ l) none = ap₂ _||_ (none a (inl refl)) (any-none test l (λ b m. none b (inr m)))
+
+  pub filter-none : (test : A → Bool) (l : List A) → ((a : A) → In a l → test a ≡ false) → filter test l ≡ []
+  unfolding filter
+  filter-none test [] none = refl
+  filter-none test (a ∷ l) none = rw (none a (inl refl)) (filter-none test l (λ b m. none b (inr m)))
+
+  -- ---- two lists, one behind the other
+  pub any-append : (test : A → Bool) (l l′ : List A) → any test (l ++ l′) ≡ (any test l || any test l′)
+  unfolding any
+  any-append test [] l′ = refl
+  any-append test (a ∷ l) l′ = go (test a) (any-append test l l′)
+    where
+      go : (t : Bool) → any test (l ++ l′) ≡ (any test l || any test l′) → (t || any test (l ++ l′)) ≡ ((t || any test l) || any test l′)
+      go true e = refl
+      go false e = e
+
+  pub filter-append : (test : A → Bool) (l l′ : List A) → filter test (l ++ l′) ≡ filter test l ++ filter test l′
+  unfolding filter
+  filter-append test [] l′ = refl
+  filter-append test (a ∷ l) l′ = go (test a) (filter-append test l l′)
+    where
+      go : (t : Bool) → filter test (l ++ l′) ≡ filter test l ++ filter test l′
+          → cond t (a ∷ filter test (l ++ l′)) (filter test (l ++ l′)) ≡ cond t (a ∷ filter test l) (filter test l) ++ filter test l′
+      go true e = ap (λ (z : List A). a ∷ z) e
+      go false e = e
+
+  -- where no element of the first is the same as one of the second
+  pub dedup-append : (same : A → A → Bool) (l l′ : List A) → ((a : A) → In a l → any (same a) l′ ≡ false)
+      → dedup same (l ++ l′) ≡ dedup same l ++ dedup same l′
+  unfolding dedup
+  dedup-append same [] l′ none = refl
+  dedup-append same (a ∷ l) l′ none =
+      rw (any-append (same a) l l′, none a (inl refl)) (go (any (same a) l) (dedup-append same l l′ (λ b m. none b (inr m))))
+    where
+      go : (t : Bool) → dedup same (l ++ l′) ≡ dedup same l ++ dedup same l′
+          → cond (t || false) (dedup same (l ++ l′)) (a ∷ dedup same (l ++ l′)) ≡ cond t (dedup same l) (a ∷ dedup same l) ++ dedup same l′
+      go true e = e
+      go false e = ap (λ (z : List A). a ∷ z) e
 
   -- no element stands twice
   abbrev pub NoRepeat : List A → Type 0
@@ -171,6 +234,22 @@ module _ {A B : Type 0} where
     (λ f. append-none (g c) (flatMap g l) .1 (f c (inl refl), flatMap-none g l .1 (λ a m. f a (inr m)))),
   )
 
+  pub flatMap-append : (g : A → List B) (l l′ : List A) → flatMap g (l ++ l′) ≡ flatMap g l ++ flatMap g l′
+  unfolding flatMap
+  flatMap-append g [] l′ = refl
+  flatMap-append g (a ∷ l) l′ = ap (λ (z : List B). g a ++ z) (flatMap-append g l l′) ∙ sym (append-assoc (g a) (flatMap g l) (flatMap g l′))
+
+  -- with one element more
+  pub flatMap-more : (g : A → List B) (l : List A) (a : A) → flatMap g (l ++ a ∷ []) ≡ flatMap g l ++ g a
+  unfolding flatMap
+  flatMap-more g l a = flatMap-append g l (a ∷ []) ∙ ap (λ (z : List B). flatMap g l ++ z) (append-nil (g a))
+
+  -- functions that agree on the elements
+  pub flatMap-agree : (g h : A → List B) (l : List A) → ((a : A) → In a l → g a ≡ h a) → flatMap g l ≡ flatMap h l
+  unfolding flatMap
+  flatMap-agree g h [] e = refl
+  flatMap-agree g h (a ∷ l) e = ap₂ _++_ (e a (inl refl)) (flatMap-agree g h l (λ b m. e b (inr m)))
+
 -- ---- lists of numbers
 pub listed-reads : (n : ℕ) (l : List ℕ) → (listed n l ≡ true) ↔ In n l
 listed-reads n l = any-same eqb (λ a b. (eqb-true a b, eq-eqb a b)) n l
@@ -188,3 +267,14 @@ in-upFrom a (suc n) k = (
   ⊎-elim (λ e. (omega arith, omega arith)) (λ m. let h = in-upFrom (suc a) n k .0 m in (omega arith, omega arith)),
   (λ h. ⊎-elim (λ e. inl (sym e)) (λ l. inr (in-upFrom (suc a) n k .1 (l, omega arith))) (eq-or-lt-of-le (h .0))),
 )
+
+pub length-upFrom : (a n : ℕ) → length (upFrom a n) ≡ n
+unfolding upFrom
+length-upFrom a zero = refl
+length-upFrom a (suc n) = ap suc (length-upFrom (suc a) n)
+
+pub upFrom-at : (a n k d : ℕ) → k < n → getD (upFrom a n) k d ≡ a + k
+unfolding upFrom
+upFrom-at a zero k d h = absurd (omega arith)
+upFrom-at a (suc n) zero d h = omega arith
+upFrom-at a (suc n) (suc k) d h = omega (arith, upFrom-at (suc a) n k d (omega arith))

@@ -11,9 +11,8 @@ use Rattle.meaning.specs.declared.Limits.{Limits}
 use Rattle.meaning.specs.Lists.{Every, padded}
 use Rattle.meaning.specs.Model.{Stack, number}
 use Rattle.meaning.specs.Table.{stackWords, loadEntries}
-use Rattle.meaning.proofs.Lists.{every-append}
+use Rattle.meaning.proofs.Lists.{every-append, flatMap-more}
 use Rattle.meaning.proofs.Decode.{length-padded, stackRow, length-stackRow, length-stackWords}
-use Rattle.lines.proofs.Follow.{flatMap-more}
 use Rattle.plan.specs.Words.{spliced, rowNumbers, withStack, planWords}
 use Rattle.plan.proofs.Runs.{splice-behind, splice-next, splice-apart, set-splices, splice-padded, splice-lent}
 
@@ -35,7 +34,7 @@ module _ (s : Stack) where
 
   pub loads-more : (ss : List Stack) → loadEntries (ss ++ s ∷ []) ≡ loadEntries ss ++ s .load
   unfolding loadEntries
-  loads-more ss = sym (flatMap-more (λ (x : Stack). x .load) ss s)
+  loads-more ss = flatMap-more (λ (x : Stack). x .load) ss s
 
   words-more : (before : ℕ) (ss : List Stack) → stackWords before (ss ++ s ∷ []) ≡ stackWords before ss ++ stackRow (before + length (loadEntries ss)) s
   unfolding stackWords loadEntries flatMap

@@ -10,14 +10,13 @@ use native.Mathlib.Omega.{arith}
 use borrow.Author.Tests.{eq-eqb, ne-eqb}
 use lib.Dec.{eqb}
 use lib.ListN.{length, getD, drop}
-use lib.Seq.{drop-cons}
 use Rattle.meaning.specs.declared.Place.{Place}
 use Rattle.meaning.specs.Lists.{onlyIf, upFrom, orderFrom, In}
 use Rattle.meaning.specs.Model.{Instance, Item, item, IL, IW, IS}
 use Rattle.meaning.specs.Places.{place, lower, lowerOf, lowest}
 use Rattle.meaning.specs.Claims.{Before, IsLowest}
 use Rattle.meaning.specs.Check.{firstOfCode, sameBase, codeClashes}
-use Rattle.meaning.proofs.Lists.{in-flatMap, in-onlyIf, in-upFrom}
+use Rattle.meaning.proofs.Lists.{drop-back, in-flatMap, in-onlyIf, in-upFrom}
 use Rattle.meaning.proofs.Tests.{fails}
 use Rattle.meaning.proofs.Orders.{one-back}
 use Rattle.meaning.proofs.Lowest.{before-reads, lowest-is}
@@ -39,16 +38,11 @@ pub record FirstFrom (items : List Item) (code k : ℕ) : Type 0 where
   pub least : 1 ≤ k
   pub is : orderFrom 1 code (map IS items) ≡ orderFrom k code (map IS (drop (k - 1) items))
 
--- the items from item k on: that one, and those behind it
-from-item : (items : List Item) (k : ℕ) → 1 ≤ k → k ≤ length items → drop (k - 1) items ≡ getD items (k - 1) [] ∷ drop k items
-from-item items zero least most = absurd (omega arith)
-from-item items (suc j) least most = rw one-back (drop-cons items j [] most)
-
 module _ {items : List Item} {code k : ℕ} (h : FirstFrom items code k) (most : k ≤ length items) where
   -- whether item k has the code decides
   decides : orderFrom 1 code (map IS items) ≡ cond (eqb code (IS (getD items (k - 1) []))) k (orderFrom (suc k) code (map IS (drop k items)))
   unfolding orderFrom
-  decides = h .is ∙ rw (from-item items k (h .least) most)
+  decides = h .is ∙ rw (drop-back items k [] (h .least) most)
 
   pub first-here : code ≡ IS (getD items (k - 1) []) → k ≡ orderFrom 1 code (map IS items)
   first-here e = sym (rw (eq-eqb code _ e) at decides)

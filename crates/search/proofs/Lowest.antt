@@ -4,16 +4,15 @@ use mathlib.Core.Logic.{inl, inr, ⊎-elim}
 use mathlib.Core.Bool.{Bool, true, false, cond, _&&_, _||_, and-false, or-false}
 use mathlib.Core.Option.{Option, none, some}
 use mathlib.Core.List.{List, [], _∷_, _++_, flatMap}
-use Prim.Native.Nat.{ℕ, suc, _-_, _≤_, _<_}
+use Prim.Native.Nat.{ℕ, _-_, _≤_, _<_}
 use native.Mathlib.Omega.{arith}
 use lib.Dec.{ltb, eqb}
 use lib.ListN.{length, getD, drop, drop-of-length-le}
-use lib.Seq.{drop-cons}
 use Rattle.meaning.specs.declared.Place.{Place}
 use Rattle.meaning.specs.Lists.{In, onlyIf}
 use Rattle.meaning.specs.Places.{belowOr, lower, lowerOf, lowest}
 use Rattle.meaning.specs.Claims.{Before}
-use Rattle.meaning.proofs.Lists.{in-append}
+use Rattle.meaning.proofs.Lists.{in-append, drop-back}
 use Rattle.meaning.proofs.Permute.{Same, same-refl}
 use Rattle.meaning.proofs.Lowest.{lowest-is, lowest-one, lowest-same}
 use Rattle.search.specs.Lowest.{foundOf, lowestIn, lowerFound}
@@ -132,13 +131,10 @@ module _ {A : Type 0} {g : A → List Place} {l : List A} where
       → r ≡ lowerFound f found → Down g l (j - 1) r
   unfolding flatMap
   down-more d {j} {e} {f} {found} {r} h k ee ef er =
-      let b : j - 1 < length l = omega (arith, h .upto) in
-      let next : suc (j - 1) ≡ j = omega arith in
-      let split : drop (j - 1) l ≡ getD l (j - 1) d ∷ drop j l = drop-cons l (j - 1) d b ∙ ap (λ (n : ℕ). getD l (j - 1) d ∷ drop n l) next in
       let first : f ≡ lowestIn (g (getD l (j - 1) d)) = ef ∙ ap (λ (a : A). lowestIn (g a)) ee in
       record {
         upto = omega (arith, h .upto);
-        is = er ∙ rw (split, lowest-append (g (getD l (j - 1) d)) (flatMap g (drop j l))) (ap₂ lowerFound first (h .is));
+        is = er ∙ rw (drop-back l j d k (h .upto), lowest-append (g (getD l (j - 1) d)) (flatMap g (drop j l))) (ap₂ lowerFound first (h .is));
       }
 
   pub down-end : {j : ℕ} {found : Found} → Down g l j found → j ≤ 0 → found ≡ lowestIn (flatMap g l)

@@ -1,14 +1,13 @@
 -- Counting how often the stacks load each item, from the last stack to the first.
-use mathlib.Core.Path.{_≡_, refl, sym, ap, ap₂, _∙_}
+use mathlib.Core.Path.{_≡_, refl, sym, ap, _∙_}
 use mathlib.Core.Bool.{Bool, true, false, cond, not}
-use mathlib.Core.List.{List, [], _∷_, _++_, flatMap}
-use Prim.Native.Nat.{ℕ, zero, suc, _+_, _-_, _≤_, _<_}
-use native.Mathlib.Numerals.{add-one}
+use mathlib.Core.List.{List, [], _∷_, flatMap}
+use Prim.Native.Nat.{ℕ, suc, _+_, _-_, _≤_, _<_}
 use native.Mathlib.Omega.{arith}
 use borrow.Author.Tests.{eqb-true, eqb-false}
 use lib.Dec.{eqb}
 use lib.ListN.{length, getD, drop, set, replicate, length-append, length-drop, length-set, length-replicate, getD-replicate}
-use lib.Seq.{drop-cons, drop-length, getD-set-same, getD-set-other}
+use lib.Seq.{drop-length, getD-set-same, getD-set-other}
 use Rattle.meaning.specs.declared.Limits.{Limits}
 use Rattle.meaning.specs.declared.Place.{Place}
 use Rattle.meaning.specs.Lists.{filter, sum, onlyIf, upFrom}
@@ -16,8 +15,10 @@ use Rattle.meaning.specs.Places.{place}
 use Rattle.meaning.specs.Model.{Instance, Stack}
 use Rattle.meaning.specs.Rules.{timesLoaded, notOnce}
 use Rattle.meaning.specs.Table.{loadEntries, instanceIn, stacksIn}
-use Rattle.meaning.proofs.Ranges.{in-range-fits}
+use Rattle.meaning.proofs.Lists.{drop-next, drop-back, flatMap-agree, in-upFrom, length-upFrom, upFrom-at}
+use Rattle.meaning.proofs.Sums.{sum-below, sum-drop}
 use Rattle.table.specs.Filled.{Filled, noStack, stackAt}
+use Rattle.table.proofs.Access.{entries-length, few-entries}
 use Rattle.search.specs.Lowest.{lowestIn, lowerFound}
 use Rattle.search.specs.declared.Found.{Found}
 use Rattle.search.specs.declared.Found.the-variants.{Nothing}
@@ -35,15 +36,13 @@ filter-most test (a ∷ l) = go (test a) (filter-most test l)
     go false h = omega arith
 
 times-most : (n : ℕ) (p : List Stack) → timesLoaded p n ≤ length (loadEntries p)
-unfolding timesLoaded sum filter loadEntries flatMap
-times-most n [] = omega arith
-times-most n (s ∷ p) = omega (arith, filter-most (eqb n) (s .load), times-most n p, length-append (s .load) (loadEntries p))
+unfolding timesLoaded
+times-most n p =
+    rw (entries-length p)
+    (sum-below (λ (s : Stack). length (filter (eqb n) (s .load))) (λ (s : Stack). length (s .load)) p (λ s m. filter-most (eqb n) (s .load)))
 
 entries-most : (k : ℕ) (p : List Stack) → length (loadEntries (drop k p)) ≤ length (loadEntries p)
-unfolding loadEntries flatMap
-entries-most zero p = omega arith
-entries-most (suc k) [] = omega arith
-entries-most (suc k) (s ∷ p) = omega (arith, entries-most k p, length-append (s .load) (loadEntries p))
+entries-most k p = rw (entries-length p, entries-length (drop k p)) (sum-drop (λ (s : Stack). length (s .load)) k p)
 
 -- ---- a stack without the first j items of its load
 abbrev pub upper : ℕ → Stack → Stack
@@ -61,15 +60,14 @@ pub count-most : {m : Limits} {t times : List ℕ} (s j at n : ℕ) → Filled m
     → at + 1 ≡ n → n ≤ length (instanceIn m t .items) → getD times at 0 ≤ 65536
 count-most {m} {t} {times} s j at n h k tally place top =
     let p = stacksIn m t in
-    let split : drop s p ≡ stackAt p s ∷ drop (s + 1) p = rw (add-one s) (drop-cons p s noStack k) in
+    let split : drop s p ≡ stackAt p s ∷ drop (s + 1) p = drop-next p s noStack k in
     let same : n - 1 ≡ at = omega arith in
     omega (
       arith,
       rw same at (tally .counts n (omega arith) top),
       upper-most j n (stackAt p s) (drop (s + 1) p),
       rw split at (entries-most s p),
-      in-range-fits m (instanceIn m t) p (h .range) .loads,
-      h .bounded .loads,
+      few-entries h,
     )
 
 -- ---- one entry more, n at the place of its count, and the count of k
@@ -106,10 +104,7 @@ module _ {items : ℕ} where
     unfolding timesLoaded sum
     load-more at {j} {n} {times} h k b en top place =
         let inside : at < length times = omega (arith, h .room) in
-        let next : suc (j - 1) ≡ j = omega arith in
-        let split : drop (j - 1) (s .load) ≡ n ∷ drop j (s .load) =
-        drop-cons (s .load) (j - 1) 0 (omega arith) ∙ rw (next, en) refl
-        in
+        let split : drop (j - 1) (s .load) ≡ n ∷ drop j (s .load) = rw en (drop-back (s .load) j 0 k b) in
         record {
           room = rw (length-set times at (getD times at 0 + 1)) (h .room);
           counts = λ i from upTo. rw split (count-more i n at (timesLoaded p i) (drop j (s .load)) times inside place from (h .counts i from upTo));
@@ -120,26 +115,7 @@ module _ {items : ℕ} where
       → Tally items (drop s p) times
   load-end p s j k e h =
       let none : j ≡ 0 = omega arith in
-      rw (drop-cons p s noStack k, ← add-one s) (rw none at h)
-
--- ---- numbers counting up
-length-up : (a n : ℕ) → length (upFrom a n) ≡ n
-unfolding upFrom
-length-up a zero = refl
-length-up a (suc n) = ap suc (length-up (suc a) n)
-
-up-at : (a n k : ℕ) → k < n → getD (upFrom a n) k 0 ≡ a + k
-unfolding upFrom
-up-at a zero k h = absurd (omega arith)
-up-at a (suc n) zero h = omega arith
-up-at a (suc n) (suc k) h = omega (arith, up-at (suc a) n k (omega arith))
-
--- what they list is the same where each of them lists the same
-up-same : {A : Type 0} (g g′ : ℕ → List A) (a n : ℕ) → ((k : ℕ) → a ≤ k → k < a + n → g k ≡ g′ k) → flatMap g (upFrom a n) ≡ flatMap g′ (upFrom a n)
-unfolding flatMap upFrom
-up-same g g′ a zero same = refl
-up-same g g′ a (suc n) same =
-    ap₂ _++_ (same a (omega arith) (omega arith)) (up-same g g′ (suc a) n (λ k from upTo. same k (omega arith) (omega arith)))
+      rw (drop-next p s noStack k) (rw none at h)
 
 -- ---- the lowest item that is not loaded once
 -- the place of item n, by the word of its count
@@ -153,7 +129,7 @@ pub record FoundAbove (times : List ℕ) (most n : ℕ) (found : Found) : Type 0
 
 module _ {times : List ℕ} {most : ℕ} where
   pub above-none : FoundAbove times most most Nothing
-  above-none = record { upto = omega arith; down = down-start (sym (length-up 1 most)) }
+  above-none = record { upto = omega arith; down = down-start (sym (length-upFrom 1 most)) }
 
   module _ {n : ℕ} {found : Found} where
     pub above-more : (at : ℕ) {f r : Found} → FoundAbove times most n found → 0 < n → at + 1 ≡ n
@@ -161,7 +137,7 @@ module _ {times : List ℕ} {most : ℕ} where
     unfolding countPlace
     above-more at {f} h k first ef er =
         let same : n - 1 ≡ at = omega arith in
-        let number : n ≡ getD (upFrom 1 most) (n - 1) 0 = omega (arith, up-at 1 most (n - 1) (omega (arith, h .upto))) in
+        let number : n ≡ getD (upFrom 1 most) (n - 1) 0 = omega (arith, upFrom-at 1 most (n - 1) 0 (omega (arith, h .upto))) in
         let here : f ≡ lowestIn (countPlace times n) = rw same ef in
         record { upto = omega (arith, h .upto); down = down-more 0 (h .down) k number here er }
 
@@ -171,6 +147,8 @@ module _ {times : List ℕ} {most : ℕ} where
     above-end i p h k e tally =
         let is : found ≡ lowestIn (flatMap (countPlace times) (upFrom 1 (length (i .items)))) = rw e at (down-end (h .down) k) in
         let same : flatMap (countPlace times) (upFrom 1 (length (i .items))) ≡ notOnce i p =
-        up-same _ _ 1 (length (i .items)) (λ n from upTo. rw (tally .counts n from (omega arith)) refl)
+        flatMap-agree _ _ (upFrom 1 (length (i .items))) (λ n m.
+        let inside = in-upFrom 1 (length (i .items)) n .0 m in
+        rw (tally .counts n (inside .0) (omega (arith, inside .1))) refl)
         in
         is ∙ ap lowestIn same

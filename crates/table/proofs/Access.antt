@@ -2,16 +2,21 @@
 use mathlib.Core.Path.{_≡_, refl, sym, ap, _∙_}
 use mathlib.Core.List.{List, []}
 use Prim.Native.Nat.{ℕ, _+_, _-_, _*_, _≤_, _<_}
+use native.Mathlib.Nat.{mul-le-mul-left}
 use native.Mathlib.Omega.{arith}
 use lib.ListN.{length, getD, drop, length-take}
 use lib.Seq.{take-take}
 use Rattle.meaning.specs.declared.Limits.{Limits}
 use Rattle.meaning.specs.Limits.{loadsAt}
-use Rattle.meaning.specs.Model.{Truck, item, noTruck, truckNumbered}
+use Rattle.meaning.specs.Lists.{Every, sum}
+use Rattle.meaning.specs.Model.{Truck, Stack, item, noTruck, truckNumbered, IM}
 use Rattle.meaning.specs.Files.{itemLine}
-use Rattle.meaning.specs.Table.{truckIn, instanceIn, stacksIn, truckPlace, stackPlace, loadFirst, loadCount}
+use Rattle.meaning.specs.Measures.{sm, weight}
+use Rattle.meaning.specs.Table.{truckIn, instanceIn, stacksIn, loadEntries, truckPlace, stackPlace, loadFirst, loadCount}
 use Rattle.meaning.specs.InRange.{Meets, TruckInRange}
 use Rattle.meaning.proofs.Lists.{every-at}
+use Rattle.meaning.proofs.Sums.{sum-most, sum-factor, length-flatMap}
+use Rattle.meaning.proofs.Ranges.{in-range-fits}
 use Rattle.table.specs.Filled.{Filled, noStack, stackAt, ItemNumber, TruckNumber, docksAtOrder, itemMost, truckMost, stackMost}
 use Rattle.table.proofs.Parts.{part, part-at, part-part, length-part, behind, behind-whole}
 use Rattle.table.proofs.Bounds.{StackBounded, stacks-bounded, item-most, truck-most, stack-most}
@@ -39,6 +44,11 @@ pub plantDocks-behind : BehindCount (λ a. a .plantDocks) 134 8
 unfolding truckIn
 plantDocks-behind = record { inside = omega arith; stands = λ row. refl; short = λ a r. r .plantDocks .most }
 
+-- the entries of all loads, stack by stack
+pub entries-length : (p : List Stack) → length (loadEntries p) ≡ sum (λ (s : Stack). length (s .load)) p
+unfolding loadEntries
+entries-length p = length-flatMap (λ (s : Stack). s .load) p
+
 module _ {m : Limits} {t : List ℕ} (h : Filled m t) where
   -- ---- what the ranges say of one item, one truck, one stack
   pub item-in : (n : ℕ) → ItemNumber (instanceIn m t) n → Meets itemLine (item (instanceIn m t) n)
@@ -47,9 +57,28 @@ module _ {m : Limits} {t : List ℕ} (h : Filled m t) where
   pub truck-in : (n : ℕ) → TruckNumber (instanceIn m t) n → TruckInRange (truckNumbered (instanceIn m t) n)
   truck-in n k = every-at TruckInRange (instanceIn m t .trucks) noTruck (n - 1) (h .range .instance .trucks) (omega (arith, k .0, k .1))
 
+  pub stacks-in : Every (StackBounded (length (instanceIn m t .items)) (length (instanceIn m t .trucks))) (stacksIn m t)
+  stacks-in = stacks-bounded (m .loads) _ _ [] 0 (stacksIn m t) (h .range .stacks)
+
   pub stack-in : (s : ℕ) → s < length (stacksIn m t)
       → StackBounded (length (instanceIn m t .items)) (length (instanceIn m t .trucks)) (stackAt (stacksIn m t) s)
-  stack-in s l = every-at (StackBounded _ _) (stacksIn m t) noStack s (stacks-bounded (m .loads) _ _ [] 0 (stacksIn m t) (h .range .stacks)) l
+  stack-in s l = every-at (StackBounded _ _) (stacksIn m t) noStack s stacks-in l
+
+  -- ---- how much the stacks hold and weigh
+  pub few-entries : length (loadEntries (stacksIn m t)) ≤ 65536
+  few-entries = omega (arith, in-range-fits m (instanceIn m t) (stacksIn m t) (h .range) .loads, h .bounded .loads)
+
+  -- k for each entry of the loads
+  pub per-entry-most : (k : ℕ) → sum (λ (s : Stack). k * length (s .load)) (stacksIn m t) ≤ k * 65536
+  per-entry-most k = rw (sum-factor k (λ (s : Stack). length (s .load)) (stacksIn m t), ← entries-length (stacksIn m t)) (mul-le-mul-left k few-entries)
+
+  -- a stack weighs at most 50000 for each entry of its load
+  pub stack-weight : (s : Stack) → StackBounded (length (instanceIn m t .items)) (length (instanceIn m t .trucks)) s
+      → sm (instanceIn m t) s ≤ 50000 * length (s .load)
+  unfolding weight
+  stack-weight s b =
+      let i = instanceIn m t in
+      sum-most (λ n. IM (item i n)) 0 50000 (s .load) (λ j k. item-most (item i (getD (s .load) j 0)) (item-in _ (b .entries j k)) 4 (omega arith))
 
   -- ---- fields
   pub item-read : (n f at : ℕ) → ItemNumber (instanceIn m t) n → f < 16 → at ≡ 16 * n + f

@@ -5,28 +5,24 @@ use mathlib.Core.Bool.{Bool, true, false, cond}
 use mathlib.Core.Option.{none, some}
 use mathlib.Core.List.{List, [], _∷_}
 use Prim.Native.Nat.{ℕ, suc, _+_, _-_, _*_, _≤_, _<_}
-use native.Mathlib.Numerals.{add-one}
 use native.Mathlib.Omega.{arith}
 use borrow.Author.Tests.{eq-eqb, ne-eqb}
 use lib.Dec.{eqb, ltb}
 use lib.ListN.{length, getD, take, drop, length-drop, drop-of-length-le}
-use lib.Seq.{drop-cons, take-all}
+use lib.Seq.{take-all}
 use Rattle.meaning.specs.Text.{countBefore, valueAfter, isDigit, decimalFrom}
 use Rattle.meaning.proofs.Tests.{same-test, lt-reads, iff-trans, iff-sym}
+use Rattle.meaning.proofs.Lists.{drop-next}
 
 -- all that is left of some bytes
 pub take-rest : (bs : List ℕ) (i : ℕ) → take (length bs - i) (drop i bs) ≡ drop i bs
 take-rest bs i = take-all (length bs - i) (drop i bs) (omega (arith, length-drop i bs))
 
--- the byte at an index stands in front of the bytes from the next index on
-pub drop-next : (bs : List ℕ) (i : ℕ) → i < length bs → drop i bs ≡ getD bs i 0 ∷ drop (i + 1) bs
-drop-next bs i h = rw (add-one, drop-cons bs i 0)
-
 -- ---- a count of the bytes before a certain one
 pub count-at : (c : ℕ) (bs : List ℕ) (i : ℕ) → i < length bs
     → (getD bs i 0 ≡ c → countBefore c (drop i bs) ≡ 0) × ((getD bs i 0 ≡ c → ⊥) → countBefore c (drop i bs) ≡ suc (countBefore c (drop (i + 1) bs)))
 unfolding countBefore
-count-at c bs i h = ((λ e. rw (drop-next bs i) (simp (eq-eqb _ _ e))), (λ f. rw (drop-next bs i) (simp (ne-eqb _ _ f))))
+count-at c bs i h = ((λ e. rw (drop-next bs i 0) (simp (eq-eqb _ _ e))), (λ f. rw (drop-next bs i 0) (simp (ne-eqb _ _ f))))
 
 pub count-end : (c : ℕ) (bs : List ℕ) (i : ℕ) → length bs ≤ i → countBefore c (drop i bs) ≡ 0
 unfolding countBefore
@@ -61,8 +57,8 @@ pub value-at : (key line : List ℕ) (i : ℕ) → i < length key → i < length
     × ((getD line i 0 ≡ getD key i 0 → ⊥) → valueAfter (drop i key) (drop i line) ≡ none)
 unfolding valueAfter
 value-at key line i h k = (
-  (λ e. rw (drop-next key i, drop-next line i) (simp (eq-eqb _ _ (sym e)))),
-  (λ f. rw (drop-next key i, drop-next line i) (simp (ne-eqb (getD key i 0) (getD line i 0) (λ e. f (sym e))))),
+  (λ e. rw (drop-next key i 0, drop-next line i 0) (simp (eq-eqb _ _ (sym e)))),
+  (λ f. rw (drop-next key i 0, drop-next line i 0) (simp (ne-eqb (getD key i 0) (getD line i 0) (λ e. f (sym e))))),
 )
 
 pub value-end : (key line : List ℕ) (i : ℕ) → i ≡ length key → valueAfter (drop i key) (drop i line) ≡ some (drop (length key) line)
@@ -84,7 +80,7 @@ value-short (k ∷ key) (b ∷ line) h = go (eqb k b) (value-short key line (ome
 pub decimal-at : (v : ℕ) (bs : List ℕ) (i : ℕ) → i < length bs
     → decimalFrom v (drop i bs) ≡ cond (isDigit (getD bs i 0)) (decimalFrom (10 * v + (getD bs i 0 - 48)) (drop (i + 1) bs)) none
 unfolding decimalFrom
-decimal-at v bs i h = rw (drop-next bs i)
+decimal-at v bs i h = rw (drop-next bs i 0)
 
 pub decimal-end : (v : ℕ) (bs : List ℕ) (i : ℕ) → length bs ≤ i → decimalFrom v (drop i bs) ≡ some v
 unfolding decimalFrom

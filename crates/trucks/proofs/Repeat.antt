@@ -10,9 +10,10 @@ use lib.ListN.{length, take, drop, replicate, length-append, length-take, length
 use lib.Seq.{take-at, drop-at, take-all}
 use Rattle.meaning.specs.Lists.{padded}
 use Rattle.meaning.specs.Reader.{Reader, onward, times}
+use Rattle.meaning.proofs.Lists.{flatMap-more}
 use Rattle.lines.specs.declared.Progress.{Progress}
 use Rattle.lines.specs.Progress.{reached, resumed, Going, Sound, ReadInto}
-use Rattle.lines.proofs.Follow.{no-refusal, flatMap-more, more, times-first, times-next, times-done}
+use Rattle.lines.proofs.Follow.{no-refusal, more, times-first, times-next, times-done}
 use Rattle.trucks.specs.Rows.{rows}
 
 -- ---- words in front and zeros behind them
@@ -116,7 +117,7 @@ pub runs-put : {A : Type 0} {size width : ℕ} {w : A → List ℕ} {k : ℕ} {v
     → Runs size width w (k + 1) (vs ++ v ∷ []) (putMid (width * k) lent out run)
 runs-put {width = width} {w = w} {k = k} {vs = vs} f lent run v e room l words =
     let at : width * k + lent ≡ width * (k + 1) = omega (arith, mul-add width k 1) in
-    record { front = rw (← at, ← flatMap-more w vs v, ← words) (front-put (f .front) lent run l (omega arith)) }
+    record { front = rw (← at, flatMap-more w vs v, ← words) (front-put (f .front) lent run l (omega arith)) }
 
 module _ {A : Type 0} {file : List ℕ} {R : Reader A} {w : A → List ℕ} {size width : ℕ} where
   -- before the first, in a cleared part

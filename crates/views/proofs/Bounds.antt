@@ -1,17 +1,17 @@
 -- How large what the rules see of a stack can be, for sums and products of it.
 use mathlib.Core.Bool.{Bool, true, false, cond}
-use mathlib.Core.List.{List, [], _∷_}
-use Prim.Native.Nat.{ℕ, suc, _*_, _≤_, _<_}
+use mathlib.Core.List.{List}
+use Prim.Native.Nat.{ℕ, _≤_, _<_}
 use native.Mathlib.Decide.{decLe}
 use native.Mathlib.Omega.{arith}
 use lib.Dec.{eqb}
 use lib.ListN.{length, getD}
 use Rattle.meaning.specs.declared.Limits.{Limits}
-use Rattle.meaning.specs.Lists.{sum, orderIn}
-use Rattle.meaning.specs.Model.{item, truck, truckOf, x, y, orientation, IM}
+use Rattle.meaning.specs.Lists.{orderIn}
+use Rattle.meaning.specs.Model.{item, truck, truckOf, x, y, orientation}
 use Rattle.meaning.specs.Table.{instanceIn, stacksIn}
 use Rattle.meaning.specs.InRange.{TruckInRange}
-use Rattle.meaning.specs.Measures.{sl, sw, xe, ye, weight, sm, supplierOrder, plantDockOrder}
+use Rattle.meaning.specs.Measures.{sl, sw, xe, ye, supplierOrder, plantDockOrder}
 use Rattle.meaning.proofs.Orders.{order-in, order-stands}
 use Rattle.table.specs.Filled.{Filled, stackAt, itemMost}
 use Rattle.table.proofs.Bounds.{item-most}
@@ -20,11 +20,6 @@ use Rattle.table.proofs.Access.{item-in, truck-in, stack-in}
 pub either-most : (b : Bool) (u v most : ℕ) → u ≤ most → v ≤ most → cond b u v ≤ most
 either-most true u v most h k = h
 either-most false u v most h k = k
-
-sum-most : (g : ℕ → ℕ) (most : ℕ) (l : List ℕ) → ((j : ℕ) → j < length l → g (getD l j 0) ≤ most) → sum g l ≤ most * length l
-unfolding sum
-sum-most g most [] h = omega arith
-sum-most g most (n ∷ l) h = omega (arith, h 0 (omega arith), sum-most g most l (λ j k. h (suc j) (omega arith)))
 
 -- a loading order goes up to the length of its list
 pub order-most : (most : ℕ) (l : List ℕ) (n : ℕ) → length l ≤ most → orderIn l n ≤ most
@@ -55,10 +50,6 @@ module _ {m : Limits} {t : List ℕ} (h : Filled m t) (s : ℕ) (l : s < length 
       let atX = b .within 3 (omega arith) .1 in
       let atY = b .within 4 (omega arith) .1 in
       (atX, omega arith, atY, omega arith)
-
-  pub weight-bound : let a = stackAt (stacksIn m t) s in sm (instanceIn m t) a ≤ 50000 * length (a .load)
-  unfolding weight
-  weight-bound = sum-most (λ n. IM (item (instanceIn m t) n)) 50000 (stackAt (stacksIn m t) s .load) (λ j k. entry-most j 4 k (omega arith))
 
   pub orders-bound : (n : ℕ) → plantDockOrder (instanceIn m t) (stackAt (stacksIn m t) s) (item (instanceIn m t) n) ≤ 8
   orders-bound n = order-most 8 _ _ (stack-truck-in .plantDocks .most)

@@ -2,35 +2,21 @@
 use mathlib.Core.Path.{_≡_, refl, sym, ap, _∙_}
 use mathlib.Core.Bool.{Bool, true, false, not}
 use mathlib.Core.List.{List, [], _∷_, map}
-use Prim.Native.Nat.{ℕ, suc, _+_, _-_, _*_, _≤_, _<_}
+use Prim.Native.Nat.{ℕ, _+_, _-_, _*_, _≤_, _<_}
 use native.Mathlib.Nat.{le-trans, mul-le-mul-left}
 use native.Mathlib.Numerals.{add-one}
 use native.Mathlib.Omega.{arith}
 use borrow.Author.Tests.{leb-true, eq-eqb, ne-eqb, not-true, not-false}
 use lib.Dec.{leb, eqb}
 use lib.ListN.{length, getD, drop, drop-of-length-le}
-use lib.Seq.{drop-cons}
 use Rattle.meaning.specs.Lists.{all, any, sum, dedup, listed, upFrom}
 use Rattle.meaning.specs.Model.{Instance, Stack, item, IG}
 use Rattle.meaning.specs.Measures.{plantDockOrder, plantDocksOf}
 use Rattle.meaning.specs.Rules.{plantDockCount}
-use Rattle.meaning.proofs.Lists.{all-reads, in-upFrom}
+use Rattle.meaning.proofs.Lists.{all-reads, drop-next, drop-back, in-upFrom}
 use Rattle.table.specs.Filled.{itemMost}
 use Rattle.views.specs.declared.Span.{Span}
 use Rattle.views.specs.Views.{spanWith, spanOf, plantDockOrders, plantDocksFrom}
-
--- ---- one element more
-module _ {A : Type 0} (l : List A) (j : ℕ) (d : A) where
-  -- on the way up
-  rest-next : j < length l → drop j l ≡ getD l j d ∷ drop (j + 1) l
-  rest-next h = rw (add-one, drop-cons l j d)
-
-  -- on the way down
-  rest-more : 0 < j → j ≤ length l → drop (j - 1) l ≡ getD l (j - 1) d ∷ drop j l
-  rest-more h k =
-      let b : j - 1 < length l = omega arith in
-      let next : suc (j - 1) ≡ j = omega arith in
-      drop-cons l (j - 1) d b ∙ ap (λ (n : ℕ). getD l (j - 1) d ∷ drop n l) next
 
 -- ---- a sum, on the way up
 pub record Summed (g : ℕ → ℕ) (most : ℕ) (l : List ℕ) (from total j : ℕ) : Type 0 where
@@ -47,7 +33,7 @@ module _ {g : ℕ → ℕ} {most : ℕ} {l : List ℕ} {from : ℕ} where
   unfolding sum
   summed-more {total} {j} {e} {r} h k ee er b =
       let first : r ≡ g (getD l j 0) = er ∙ ap g ee in
-      let next = ap (sum g) (rest-next l j 0 k) in
+      let next = ap (sum g) (drop-next l j 0 k) in
       record { upto = omega arith; rest = omega (arith, next, first, h .rest); few = omega (arith, h .few) }
 
   -- a sum over a load stays far below the largest word
@@ -81,11 +67,11 @@ module _ {i : Instance} {a : Stack} {dock from : ℕ} where
 
     pub passed-found : r ≡ dock → true ≡ listed dock (plantDocksFrom i a from)
     unfolding plantDocksFrom any
-    passed-found t = sym (rw (rest-next (a .load) j 0 k) (simp (eq-eqb dock _ (sym (here ∙ t))))) ∙ h .rest
+    passed-found t = sym (rw (drop-next (a .load) j 0 k) (simp (eq-eqb dock _ (sym (here ∙ t))))) ∙ h .rest
 
     pub passed-more : (r ≡ dock → ⊥) → Passed i a dock from (j + 1)
     unfolding plantDocksFrom any
-    passed-more t = record { upto = omega arith; rest = sym (rw (rest-next (a .load) j 0 k) (simp (ne-eqb dock _ (λ q. t (sym here ∙ sym q))))) ∙ h .rest }
+    passed-more t = record { upto = omega arith; rest = sym (rw (drop-next (a .load) j 0 k) (simp (ne-eqb dock _ (λ q. t (sym here ∙ sym q))))) ∙ h .rest }
 
   pub passed-end : {j : ℕ} → Passed i a dock from j → length (a .load) ≤ j → false ≡ listed dock (plantDocksFrom i a from)
   unfolding plantDocksFrom any
@@ -103,7 +89,7 @@ module _ {A B : Type 0} {value : List A → B} {l : List A} where
       record { upto = omega arith; is = ap value (sym (drop-of-length-le l k)) }
 
   down-more : (d : A) {j : ℕ} {u v : B} → Down value l j u → 0 < j → v ≡ value (getD l (j - 1) d ∷ drop j l) → Down value l (j - 1) v
-  down-more d {j} h k e = record { upto = omega (arith, h .upto); is = e ∙ ap value (sym (rest-more l j d k (h .upto))) }
+  down-more d {j} h k e = record { upto = omega (arith, h .upto); is = e ∙ ap value (sym (drop-back l j d k (h .upto))) }
 
   down-end : {j : ℕ} {v : B} → Down value l j v → j ≤ 0 → v ≡ value l
   down-end {j} h k = let e : j ≡ 0 = omega arith in h .is ∙ ap (λ n. value (drop n l)) e

@@ -10,9 +10,9 @@ use lib.ListN.{length, getD, drop}
 use Rattle.meaning.specs.Lists.{sum, orderIn, orderFrom}
 use Rattle.meaning.specs.Model.{Instance, Truck, Stack, item, truckNumbered, truckOf, truck, x, y, orientation, IL, IW, IH, nesting, IM, IU, IK}
 use Rattle.meaning.specs.Measures.{bottom, weight, height, supplierDockOrder}
+use Rattle.meaning.proofs.Sums.{sum-below, sum-drop}
 use Rattle.meaning.proofs.Orders.{row-at}
 use Rattle.meaning.proofs.Sound.{SoundStack}
-use Rattle.meaning.proofs.Heights.{sum-below, sum-tail}
 use Rattle.table.specs.Filled.{docksAtOrder}
 use Rattle.views.specs.declared.Extent.{Extent}
 use Rattle.views.specs.declared.Footprint.{Footprint}
@@ -48,7 +48,7 @@ module _ (i : Instance) (a : Stack) where
     nested-less h =
         let high : ℕ → ℕ = λ n. IH (item i n) in
         let deep : ℕ → ℕ = λ n. nesting (item i n) in
-        omega (arith, eh, en, sum-tail deep (a .load), sum-below deep high (a .load) (h .nested))
+        omega (arith, eh, en, sum-drop deep 1 (a .load), sum-below deep high (a .load) (h .nested))
 
     pub size-is : {total : ℕ} → total ≡ sum (λ n. IM (item i n)) (a .load) → _≡_ {A = Size} (record { weight = total; height = heights - nested }) (sizeOf i a)
     unfolding sizeOf weight height

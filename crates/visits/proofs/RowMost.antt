@@ -15,10 +15,10 @@ use Rattle.meaning.specs.Table.{instanceIn, stacksIn}
 use Rattle.meaning.specs.InRange.{Meets}
 use Rattle.meaning.proofs.Lists.{every-map}
 use Rattle.table.specs.Filled.{Filled, stackAt}
-use Rattle.table.proofs.Access.{stack-in}
+use Rattle.table.proofs.Access.{stack-in, stack-weight}
 use Rattle.table.proofs.Bounds.{stack-most}
 use Rattle.views.specs.Views.{spanOf, plantDockOrders}
-use Rattle.views.proofs.Bounds.{either-most, order-most, entry-most, stack-truck-in, footprint-bounds, weight-bound, orders-bound, supplier-order-bound}
+use Rattle.views.proofs.Bounds.{either-most, order-most, entry-most, stack-truck-in, footprint-bounds, orders-bound, supplier-order-bound}
 use Rattle.visits.specs.Visits.{rowOf, rowMost}
 
 -- ---- lists
@@ -39,7 +39,7 @@ every-or P d p [] h k = p
 every-or P d p (a ∷ l) h zero = h .0
 every-or P d p (a ∷ l) h (suc k) = every-or P d p l (h .1) k
 
-pub dedup-most : {A : Type 0} (same : A → A → Bool) (l : List A) → length (dedup same l) ≤ length l
+dedup-most : {A : Type 0} (same : A → A → Bool) (l : List A) → length (dedup same l) ≤ length l
 unfolding dedup
 dedup-most same [] = omega arith
 dedup-most same (a ∷ l) = go (dedup-most same l) (any (same a) l)
@@ -86,7 +86,7 @@ module _ {m : Limits} {t : List ℕ} (h : Filled m t) (s : ℕ) (l : s < length 
       let own = stack-most _ _ a b (omega (arith, h .range .instance .truckCount, h .bounded .words)) in
       let ground = footprint-bounds h s l in
       let index : s ≤ 16777216 = omega (arith, h .range .stackCount, h .bounded .words) in
-      let heavy : sm (instanceIn m t) a ≤ 3200000 = omega (arith, weight-bound h s l, b .fewEntries) in
+      let heavy : sm (instanceIn m t) a ≤ 3200000 = omega (arith, stack-weight h a b, b .fewEntries) in
       most-at
       (index
       then own 0 (omega arith)

@@ -1,6 +1,6 @@
 -- Used trucks in the visiting order: the stacks of each stand together, by ascending number.
 use mathlib.Core.Path.{_≡_, refl, sym, ap, subst, _∙_}
-use mathlib.Core.Logic.{inl, inr, ⊎-elim}
+use mathlib.Core.Logic.{inl, ⊎-elim}
 use mathlib.Core.Bool.{Bool, true, false, not}
 use mathlib.Core.List.{List, [], _∷_, _++_, map}
 use Prim.Native.Nat.{ℕ, zero, suc, _+_, _-_, _*_, _≤_, _<_}
@@ -16,13 +16,14 @@ use Rattle.meaning.specs.Measures.{UsedTruck, usedBy, sameUsed, usedTrucks, sta
 use Rattle.meaning.specs.Table.{instanceIn, stacksIn}
 use Rattle.meaning.specs.InRange.{StacksInRange}
 use Rattle.meaning.proofs.Tests.{true≢false, fails}
-use Rattle.meaning.proofs.Lists.{NoRepeat, at-in, in-map, every-at, every-map, every-reads}
+use Rattle.meaning.proofs.Lists.{NoRepeat, at-in, in-at, in-map, every-at, every-map, every-reads}
 use Rattle.meaning.proofs.Permute.{map-perm, noRepeat-perm}
 use Rattle.meaning.proofs.Sound.{not-taken}
 use Rattle.meaning.proofs.RuleKinds.{used-reads}
 use Rattle.table.specs.Filled.{Filled, noStack}
 use Rattle.table.proofs.Parts.{map-at}
-use Rattle.table.proofs.Bounds.{StackBounded, stacks-bounded}
+use Rattle.table.proofs.Bounds.{StackBounded}
+use Rattle.table.proofs.Access.{stacks-in}
 use Rattle.visits.specs.Visits.{visitOrder, visitAt, visited, block, OneTruck, Parted}
 use Rattle.visits.proofs.Order.{order-within, order-rising, visited-length, visited-at, visited-perm}
 
@@ -34,12 +35,6 @@ module _ {A : Type 0} (d : A) where
   noRepeat-at (a ∷ l) h j zero less inside e = omega arith
   noRepeat-at (a ∷ l) h zero (suc k) less inside e = h .0 (subst (λ (b : A). In b l) (sym e) (at-in l d k (omega arith)))
   noRepeat-at (a ∷ l) h (suc j) (suc k) less inside e = noRepeat-at l (h .1) j k (omega arith) (omega arith) e
-
-  -- each element has a place
-  pub in-at : (l : List A) (a : A) → In a l → (k : ℕ) × (k < length l) × (a ≡ getD l k d)
-  in-at [] a m = absurd m
-  in-at (b ∷ l) a (inl e) = (0, omega arith, e)
-  in-at (b ∷ l) a (inr m) = let w = in-at l a m in (suc (w .0), omega (arith, w .1), w .2)
 
 -- ---- what the ranges give
 -- copies and numbers that have room in the key, and no number twice
@@ -63,7 +58,7 @@ filled-keyed {m} {t} h =
     record {
       small = every-map (StackBounded items trucks) (λ (s : Stack). (copy s ≤ 99) × (number s ≤ 65535))
           (λ s b. (b .within 2 (omega arith) .1, b .within 0 (omega arith) .1)) (stacksIn m t)
-          (stacks-bounded (m .loads) items trucks [] 0 (stacksIn m t) (h .range .stacks));
+          (stacks-in h);
       once = numbers-once (m .loads) items trucks [] 0 (stacksIn m t) (h .range .stacks);
     }
 
@@ -102,7 +97,7 @@ module _ {p : List Stack} (h : Keyed p) where
       key-parts _ _ _ _ _ _ (b .0) (b .1) (c .0) (c .1) (order-rising p j k upto inside)
 
   -- on one used truck they are visited by ascending number
-  pub number-rising : (j k : ℕ) → j < k → k < length p → usedBy (visitAt p j) ≡ usedBy (visitAt p k) → number (visitAt p j) < number (visitAt p k)
+  number-rising : (j k : ℕ) → j < k → k < length p → usedBy (visitAt p j) ≡ usedBy (visitAt p k) → number (visitAt p j) < number (visitAt p k)
   number-rising j k less inside e =
       let s = visitAt p j in
       let r = visitAt p k in
@@ -110,7 +105,7 @@ module _ {p : List Stack} (h : Keyed p) where
       (eq-or-lt-of-le (rising-parts j k (omega arith) inside .2 (same-truck s r e) (same-copy s r e)))
 
   -- and what is visited between two of them is on it too
-  pub used-between : (j i k : ℕ) → j ≤ i → i ≤ k → k < length p → usedBy (visitAt p j) ≡ usedBy (visitAt p k) → usedBy (visitAt p i) ≡ usedBy (visitAt p k)
+  used-between : (j i k : ℕ) → j ≤ i → i ≤ k → k < length p → usedBy (visitAt p j) ≡ usedBy (visitAt p k) → usedBy (visitAt p i) ≡ usedBy (visitAt p k)
   used-between j i k low high inside e =
       let s = visitAt p j in
       let r = visitAt p k in
