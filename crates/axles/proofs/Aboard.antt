@@ -3,14 +3,13 @@ use mathlib.Core.Path.{_≡_, refl}
 use mathlib.Core.Bool.{Bool, true, false, cond}
 use mathlib.Core.List.{List, [], _∷_}
 use Prim.Native.Nat.{ℕ, suc, _+_, _-_, _≤_, _<_}
-use native.Mathlib.Numerals.{add-one}
 use native.Mathlib.Omega.{arith}
 use lib.ListN.{length}
-use lib.Seq.{drop-cons}
 use Rattle.meaning.specs.Lists.{filter, sum, between}
 use Rattle.meaning.specs.Model.{Instance, Stack}
 use Rattle.meaning.specs.Measures.{sm, supplierOrder, weightOn}
 use Rattle.meaning.specs.Rules.{counts}
+use Rattle.meaning.proofs.Lists.{drop-next}
 use Rattle.table.specs.Filled.{noStack}
 use Rattle.visits.specs.Visits.{visitAt, visited, block}
 use Rattle.visits.proofs.Order.{visited-length, visited-at}
@@ -44,7 +43,7 @@ module _ (i : Instance) (p : List Stack) where
     aboard-more first last =
         let n : end - k ≡ suc (end - next) = omega arith in
         let there : k < length (visited p) = rw (visited-length p) (omega arith) in
-        rw (n, drop-cons (visited p) k noStack there, visited-at p k (omega arith), step, add-one k) refl
+        rw (n, drop-next (visited p) k noStack there, visited-at p k (omega arith), step) refl
 
     pub weigh-more : (first last : ℕ) {part sum r : ℕ} → part ≡ cond (between first last (supplierOrder i (visitAt p k))) (sm i (visitAt p k)) 0
         → sum ≡ weightOn i (aboard i (block p next end) first last) → r ≡ part + sum → r ≡ weightOn i (aboard i (block p k end) first last)

@@ -17,7 +17,7 @@ use Rattle.visits.specs.Visits.{visited, block}
 use Rattle.visits.proofs.Order.{visited-perm}
 use Rattle.axles.specs.Aboard.{aboard}
 
--- those that are on
+-- the stacks that are on
 some-weight : (i : Instance) (p : List Stack) (first last : ℕ) → weightOn i (aboard i p first last) ≤ sum (sm i) p
 unfolding weightOn aboard
 some-weight i p first last = sum-filter (sm i) _ p

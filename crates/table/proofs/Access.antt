@@ -91,12 +91,13 @@ module _ {m : Limits} {t : List ℕ} (h : Filled m t) where
       word-read t at (truckPlace m n + f) _ (truckMost f) e (truck-word m t n f k l)
       (truck-most (truckNumbered (instanceIn m t) n .fields) (truck-in n k .fields) f l)
 
+  pub stack-field-most : (s : ℕ) → s < length (stacksIn m t) → (f : ℕ) → f < 6 → getD (stackAt (stacksIn m t) s .fields) f 0 ≤ stackMost f
+  stack-field-most s k = stack-most _ _ (stackAt (stacksIn m t) s) (stack-in s k) (omega (arith, h .range .instance .truckCount, h .bounded .words))
+
   pub stack-read : (s f at : ℕ) → s < length (stacksIn m t) → f < 6 → at ≡ stackPlace m s + f
       → (getD t at 0 ≡ getD (stackAt (stacksIn m t) s .fields) f 0) × (getD t at 0 ≤ stackMost f)
   stack-read s f at k l e =
-      let few : length (instanceIn m t .trucks) ≤ 16777216 = omega (arith, h .range .instance .truckCount, h .bounded .words) in
-      word-read t at (stackPlace m s + f) _ (stackMost f) e (stack-word m t s f k l)
-      (stack-most _ (length (instanceIn m t .trucks)) (stackAt (stacksIn m t) s) (stack-in s k) few f l)
+      word-read t at (stackPlace m s + f) _ (stackMost f) e (stack-word m t s f k l) (stack-field-most s k f l)
 
   -- ---- the lists of a truck
   module _ (n : ℕ) (k : TruckNumber (instanceIn m t) n) where

@@ -15,8 +15,7 @@ use Rattle.meaning.specs.Table.{instanceIn, stacksIn}
 use Rattle.meaning.specs.InRange.{Meets}
 use Rattle.meaning.proofs.Lists.{every-map}
 use Rattle.table.specs.Filled.{Filled, stackAt}
-use Rattle.table.proofs.Access.{stack-in, stack-weight}
-use Rattle.table.proofs.Bounds.{stack-most}
+use Rattle.table.proofs.Access.{stack-in, stack-weight, stack-field-most}
 use Rattle.views.specs.Views.{spanOf, plantDockOrders}
 use Rattle.views.proofs.Bounds.{either-most, order-most, entry-most, stack-truck-in, footprint-bounds, orders-bound, supplier-order-bound}
 use Rattle.visits.specs.Visits.{rowOf, rowMost}
@@ -83,7 +82,7 @@ module _ {m : Limits} {t : List ℕ} (h : Filled m t) (s : ℕ) (l : s < length 
   row-most k =
       let a = stackAt (stacksIn m t) s in
       let b = stack-in h s l in
-      let own = stack-most _ _ a b (omega (arith, h .range .instance .truckCount, h .bounded .words)) in
+      let own = stack-field-most h s l in
       let ground = footprint-bounds h s l in
       let index : s ≤ 16777216 = omega (arith, h .range .stackCount, h .bounded .words) in
       let heavy : sm (instanceIn m t) a ≤ 3200000 = omega (arith, stack-weight h a b, b .fewEntries) in
