@@ -1,3 +1,4 @@
+pub mod Refusals
 pub mod Clashes
 pub mod Filling
 pub mod Outer

@@ -1,17 +1,14 @@
 -- What the reading call promises, from what filling the named words promises and from the lengths of the files and of the table.
 use mathlib.Core.Path.{_≡_, refl, sym, ap, ap₂, _∙_}
-use mathlib.Core.Logic.{⊎-elim}
 use mathlib.Core.Bool.{Bool, true, false, not}
 use mathlib.Core.Option.{none}
-use mathlib.Core.List.{List, [], _∷_, _++_}
+use mathlib.Core.List.{List, _++_}
 use Prim.Native.Nat.{ℕ, _≤_, _<_, _-_}
 use native.Mathlib.Nat.{sub-zero}
 use native.Mathlib.Omega.{arith}
 use borrow.Author.Tests.{lt-ltb, le-ltb}
-use types.Run.{OneOf}
 use lib.ListN.{length, drop, replicate}
 use Rattle.meaning.specs.declared.Limits.{Limits}
-use Rattle.meaning.specs.Lists.{Every}
 use Rattle.meaning.specs.Limits.{named}
 use Rattle.meaning.specs.Reader.{wholeFile}
 use Rattle.meaning.specs.Files.{instanceLines}
@@ -26,12 +23,6 @@ use Rattle.table.proofs.Fill.{table-filled}
 use Rattle.reading.specs.declared.FilesRead.{FilesRead}
 use Rattle.reading.specs.declared.FilesRead.the-variants as Read
 use Rattle.reading.specs.Answered.{refusalOf, readableBy, unrefused, refusedBy, FillPromise, NamedPromise, expected, ReadPromise}
-
--- a number above all keys is none of them
-pub not-among : (keys : List ℕ) (n : ℕ) → Every (λ (k : ℕ). k < n) keys → OneOf keys n → ⊥
-not-among [] n h o = o
-not-among (k ∷ []) n h o = let e : n ≡ k = o in omega (arith, h .0)
-not-among (k ∷ j ∷ keys) n h o = ⊎-elim (λ (e : n ≡ k). omega (arith, h .0)) (not-among (j ∷ keys) n (h .1)) o
 
 -- ---- the named words, after a filling whose answer is told apart by a test
 module _ (m : Limits) (r : FilesRead) (test : Bool) (e : test ≡ readableBy r) where
