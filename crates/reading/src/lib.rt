@@ -224,7 +224,8 @@ pub fn read_within(limits: Limits, instance: &[u8], plan: &[u8], table: &mut [u3
     ensures { λ r. ⌜ ReadPromise limits (now (instance .entry)) (now (plan .entry)) (now (table .entry)) (now (table .exit)) r ⌝ }
 {
     let named = named_words(limits);
-    if table.len() < named {
+    let lent = table.len();
+    if lent < named {
         return FilesRead::ShortTable;
     }
     read_named(limits, instance, plan, &mut table[0..named])
