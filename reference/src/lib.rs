@@ -1,5 +1,6 @@
 //! Reference check of a load plan for inbound trailers: plain structs, rule after rule.
 
+pub mod case_folder;
 pub mod cost;
 pub mod item_rules;
 pub mod loading;
@@ -8,6 +9,7 @@ pub mod placement;
 pub mod reader;
 pub mod stack_rules;
 pub mod table;
+pub mod tally;
 pub mod text;
 pub mod verdict;
 pub mod weights;

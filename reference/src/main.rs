@@ -1,4 +1,4 @@
-//! Checks `plan.txt` against `instance.txt` and prints the answer.
+//! Checks `plan.txt` against `instance.txt` and prints the answer. Both stand in the folder that is given, or else in the working folder.
 
 use std::io::ErrorKind;
 use std::path::{Path, PathBuf};
@@ -30,11 +30,5 @@ fn read_or_empty(path: &Path) -> std::io::Result<Vec<u8>> {
 
 fn print_answer(instance: &[u8], plan: &[u8]) {
     let mut table = vec![0; reference::table::NAMED_WORDS];
-    let answer = reference::check(instance, plan, &mut table);
-    println!("number={}", answer.number);
-    println!("first={}", answer.first);
-    println!("second={}", answer.second);
-    println!("third={}", answer.third);
-    println!("cost={}", answer.cost);
-    println!("trucks={}", answer.trucks);
+    print!("{}", reference::check(instance, plan, &mut table));
 }

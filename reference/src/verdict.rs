@@ -1,5 +1,7 @@
 //! The answer and the numbers of the refusals.
 
+use std::fmt::{Display, Formatter};
+
 #[derive(Debug, Clone, Copy, PartialEq, Eq)]
 pub struct Answer {
     pub number: u32,
@@ -8,6 +10,26 @@ pub struct Answer {
     pub third: u32,
     pub cost: u64,
     pub trucks: u32,
+}
+
+impl Answer {
+    /// The six numbers with a blank between each two.
+    pub fn in_one_line(&self) -> String {
+        let places = format!("{} {} {}", self.first, self.second, self.third);
+        format!("{} {places} {} {}", self.number, self.cost, self.trucks)
+    }
+}
+
+/// The six lines that a program prints.
+impl Display for Answer {
+    fn fmt(&self, formatter: &mut Formatter) -> std::fmt::Result {
+        writeln!(formatter, "number={}", self.number)?;
+        writeln!(formatter, "first={}", self.first)?;
+        writeln!(formatter, "second={}", self.second)?;
+        writeln!(formatter, "third={}", self.third)?;
+        writeln!(formatter, "cost={}", self.cost)?;
+        writeln!(formatter, "trucks={}", self.trucks)
+    }
 }
 
 pub const SHORT_TABLE: u32 = 1;

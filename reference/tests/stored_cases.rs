@@ -2,22 +2,66 @@
 
 mod common;
 
-use common::generator::{generate, same_files};
-use std::path::Path;
+use common::generator::{generate, listed, order_group, same_files};
+use std::collections::{BTreeMap, BTreeSet};
+use std::path::{Path, PathBuf};
 use std::process::Command;
 
+fn kept() -> PathBuf {
+    Path::new(env!("CARGO_MANIFEST_DIR")).join("../crates/stored_cases")
+}
+
+fn lines_of(path: &Path) -> Vec<String> {
+    let text = std::fs::read_to_string(path).unwrap();
+    text.lines().map(str::to_string).collect()
+}
+
+/// The label of each stored case, and its answer as six numbers.
+fn stored_answers() -> Vec<(String, Vec<String>)> {
+    let labels = lines_of(&kept().join("data/labels.txt"));
+    let printed = lines_of(&kept().join("stdout"));
+    assert_eq!(labels.len(), printed.len());
+    let answer = |line: &String| line.split(' ').take(6).map(str::to_string).collect();
+    labels.into_iter().zip(printed.iter().map(answer)).collect()
+}
+
 #[test]
-fn the_stored_reading_cases_are_those_of_the_generator() {
-    let cases = generate("stored-reading", &["--reading"]);
-    let made = Path::new(env!("CARGO_TARGET_TMPDIR")).join("stored-reading-crate");
+fn the_stored_cases_are_those_of_the_generator() {
+    let reading = generate("stored-reading", &["--reading"]);
+    let check = generate("stored-check", &["--check"]);
+    let made = Path::new(env!("CARGO_TARGET_TMPDIR")).join("stored-crate");
     let _ = std::fs::remove_dir_all(&made);
     let run = Command::new(env!("CARGO_BIN_EXE_stored"))
-        .args([&cases, &made])
+        .args([&made, &reading, &check])
         .output()
         .unwrap();
     assert!(run.status.success(), "{}", String::from_utf8_lossy(&run.stderr));
-    let kept = Path::new(env!("CARGO_MANIFEST_DIR")).join("../crates/reading_cases");
-    same_files(&made.join("data"), &kept.join("data"));
+    same_files(&made.join("data"), &kept().join("data"));
     let printed = |folder: &Path| std::fs::read(folder.join("stdout")).unwrap();
-    assert!(printed(&made) == printed(&kept), "crates/reading_cases/stdout");
+    assert!(printed(&made) == printed(&kept()), "crates/stored_cases/stdout");
+}
+
+#[test]
+fn every_verdict_is_stored_and_many_cases_are_of_the_whole_check() {
+    let stored = stored_answers();
+    let verdicts: BTreeSet<&str> = stored.iter().map(|(_, answer)| answer[0].as_str()).collect();
+    for verdict in 0..=28 {
+        assert!(verdicts.contains(verdict.to_string().as_str()), "{verdict}");
+    }
+    let labels: BTreeSet<&str> = stored.iter().map(|(label, _)| label.as_str()).collect();
+    assert_eq!(labels.len(), stored.len(), "each case has a name of its own");
+    let check = listed(&generate("stored-count", &["--check"]));
+    let count = check.iter().filter(|words| labels.contains(words[7].as_str())).count();
+    assert!(count >= 400, "{count}");
+}
+
+#[test]
+fn stored_plans_have_the_same_answer_in_every_order() {
+    let stored: BTreeMap<String, Vec<String>> = stored_answers().into_iter().collect();
+    let orders: Vec<&String> = stored.keys().filter(|label| order_group(label).is_some()).collect();
+    assert!(orders.len() >= 40, "{}", orders.len());
+    for label in orders {
+        let first = order_group(label).unwrap();
+        assert_eq!(stored[label], stored[first], "{label}");
+    }
 }

@@ -1,5 +1,7 @@
 //! Writes generated cases on the edges of the rules, with the answers of the reference.
 
+#[path = "cases/checking.rs"]
+mod checking;
 #[path = "cases/damage.rs"]
 mod damage;
 #[path = "cases/limits.rs"]
@@ -33,14 +35,17 @@ use std::process::ExitCode;
 
 const USAGE: &str = "usage: cases DIR COUNT SEED [--small]
        cases DIR --reading
+       cases DIR --check
   DIR        where the files and list.txt are written
   COUNT SEED so many random cases; the same seed gives the same files
   --small    small loads only
-  --reading  every bad and edge input of the two files, each a small change of one load";
+  --reading  every bad and edge input of the two files, each a small change of one load
+  --check    a fixed list of cases through every verdict, from small to full size, some with their stacks in other orders";
 
 enum Content {
     Random { count: u64, seed: u64, small: bool },
     Reading,
+    Check,
 }
 
 struct Order {
@@ -70,6 +75,7 @@ fn parse(arguments: &[String]) -> Option<Order> {
     let words: Vec<&str> = arguments.iter().map(String::as_str).collect();
     let (folder, content) = match words[..] {
         [folder, "--reading"] => (folder, Content::Reading),
+        [folder, "--check"] => (folder, Content::Check),
         [folder, count, seed] => (folder, random_content(count, seed, false)?),
         [folder, count, seed, "--small"] => (folder, random_content(count, seed, true)?),
         _ => return None,
@@ -98,11 +104,9 @@ fn write_cases(order: &Order) -> std::io::Result<[u64; 29]> {
         let name = format!("{letter}{index:06}");
         write_file(&order.folder, &name, "instance", &made.instance)?;
         write_file(&order.folder, &name, "plan", &made.plan)?;
-        let answer = made.answer;
-        tally[answer.number as usize] += 1;
-        let places = format!("{} {} {}", answer.first, answer.second, answer.third);
-        let result = format!("{} {places} {} {}", answer.number, answer.cost, answer.trucks);
-        writeln!(list, "{name} {result} {}", made.kind).expect("a string takes every line");
+        tally[made.answer.number as usize] += 1;
+        let answer = made.answer.in_one_line();
+        writeln!(list, "{name} {answer} {}", made.kind).expect("a string takes every line");
     }
     std::fs::write(order.folder.join("list.txt"), list)?;
     Ok(tally)
@@ -117,6 +121,7 @@ fn cases_of(content: &Content) -> (char, Box<dyn Iterator<Item = Made>>) {
             ('c', Box::new((0..count).map(made)))
         }
         Content::Reading => ('r', Box::new(reading::all().into_iter())),
+        Content::Check => ('k', Box::new(checking::all().into_iter())),
     }
 }
 

@@ -5,8 +5,9 @@
 //! afterwards for the first cases. A short table and files of the most bytes and one more are added to the cases.
 
 use reference::table::NAMED_WORDS;
-use reference::{bad_line, check, Answer, MOST_BYTES};
-use std::collections::{BTreeMap, BTreeSet};
+use reference::tally::Tally;
+use reference::{bad_line, case_folder, check, Answer, MOST_BYTES};
+use std::collections::BTreeSet;
 use std::fmt::Write;
 use std::path::{Path, PathBuf};
 use std::process::{Command, ExitCode};
@@ -119,19 +120,20 @@ fn compare(order: &Order) -> Result<bool, String> {
         }
         differing.extend(failed);
     }
-    print_tally(&cases, &differing);
+    let mut tally = Tally::default();
+    for (index, case) in cases.iter().enumerate() {
+        tally.count(case.answer.number, !differing.contains(&index));
+    }
+    print!("{tally}");
     Ok(differing.is_empty())
 }
 
 fn read_cases(order: &Order) -> Result<Vec<Case>, String> {
-    let list = std::fs::read_to_string(order.folder.join("list.txt")).map_err(|error| format!("list.txt: {error}"))?;
-    let mut cases = Vec::new();
-    for name in list.lines().filter_map(|line| line.split_whitespace().next()) {
-        let file = |kind: &str| {
-            std::fs::read(order.folder.join(format!("{name}.{kind}"))).map_err(|error| format!("{name}: {error}"))
-        };
-        cases.push(Case::new(name, file("instance")?, file("plan")?, NAMED_WORDS));
-    }
+    let listed = case_folder::read(&order.folder).map_err(|error| error.to_string())?;
+    let mut cases: Vec<Case> = listed
+        .into_iter()
+        .map(|case| Case::new(&case.name, case.instance, case.plan, NAMED_WORDS))
+        .collect();
     let extremes = cases.first().map(extremes).unwrap_or_default();
     cases.extend(extremes);
     Ok(cases)
@@ -336,22 +338,4 @@ fn failed_cases(said: &str) -> BTreeSet<usize> {
         }
     }
     failed
-}
-
-fn print_tally(cases: &[Case], differing: &BTreeSet<usize>) {
-    let mut agreed: BTreeMap<u32, usize> = BTreeMap::new();
-    for (index, case) in cases.iter().enumerate() {
-        if !differing.contains(&index) {
-            *agreed.entry(case.answer.number).or_default() += 1;
-        }
-    }
-    println!("verdict  agree");
-    for (number, count) in &agreed {
-        println!("{number:7} {count:6}");
-    }
-    println!(
-        "{} cases agree, {} differ",
-        cases.len() - differing.len(),
-        differing.len()
-    );
 }

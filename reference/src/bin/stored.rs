@@ -1,13 +1,14 @@
 //! Turns generated cases into the stored cases of a program of the repository: its data, and what it must print.
 
+use reference::case_folder::{self, ListedCase};
 use reference::{bad_line, check, text, verdict};
 use std::fmt::Write;
 use std::path::Path;
 use std::process::ExitCode;
 
-const USAGE: &str = "usage: stored DIR CRATE
-  DIR    generated cases (see cases)
-  CRATE  the folder whose data/ and stdout are written";
+const USAGE: &str = "usage: stored CRATE DIR...
+  CRATE  the folder whose data/ and stdout are written
+  DIR    generated cases (see cases), those of each folder after those of the one before";
 
 /// Words of the table that the program has, of which it lends some. The named ones are 8,976.
 const TABLE_WORDS: usize = 8_980;
@@ -15,15 +16,25 @@ const TABLE_WORDS: usize = 8_980;
 const BEFORE: u32 = 7;
 /// No words, one too few, just enough.
 const OTHER_LENGTHS: [usize; 3] = [0, 8_975, 8_976];
-/// Cases that are tried with those lengths too: readable files, and files that are refused with a long table.
-const OTHERWISE_LENT: [&str; 4] = ["unchanged", "empty-both", "both-65536-bytes", "full"];
+/// Cases that are tried with those lengths too: plans that are accepted, that a rule refuses, and files that cannot be read.
+const OTHERWISE_LENT: [&str; 7] = [
+    "unchanged",
+    "empty-both",
+    "both-65536-bytes",
+    "full",
+    "large-one-truck",
+    "large-one-truck-rear",
+    "overlong-plan",
+];
 /// Verdicts and lines for which the bad line is asked besides the answer's own: line 0, a line that may be missing, and other numbers.
 const ASKED: [(u32, u32); 5] = [(4, 0), (5, 3), (7, 2), (8, 9_999), (6, 1)];
 
-/// The files of all cases, one after the other. A file that is part of another is not written again.
+/// The files of all cases, one after the other. A file that one of them begins with is not written again. Parts in the middle of a file
+/// are not looked for, which would take long and spare little.
 #[derive(Default)]
 struct Files {
     bytes: Vec<u8>,
+    starts: Vec<usize>,
 }
 
 impl Files {
@@ -31,11 +42,12 @@ impl Files {
         if file.is_empty() {
             return 0;
         }
-        if let Some(start) = self.bytes.windows(file.len()).position(|part| part == file) {
+        if let Some(&start) = self.starts.iter().find(|&&start| self.bytes[start..].starts_with(file)) {
             return start;
         }
         let start = self.bytes.len();
         self.bytes.extend_from_slice(file);
+        self.starts.push(start);
         start
     }
 }
@@ -50,11 +62,11 @@ struct Stored {
 
 fn main() -> ExitCode {
     let arguments: Vec<String> = std::env::args().skip(1).collect();
-    let [from, to] = &arguments[..] else {
+    let [to, _, ..] = &arguments[..] else {
         eprintln!("{USAGE}");
         return ExitCode::FAILURE;
     };
-    match store(Path::new(from), Path::new(to)) {
+    match store(&arguments[1..], Path::new(to)) {
         Ok(()) => ExitCode::SUCCESS,
         Err(error) => {
             eprintln!("stored: {error}");
@@ -63,20 +75,11 @@ fn main() -> ExitCode {
     }
 }
 
-fn store(from: &Path, to: &Path) -> std::io::Result<()> {
+fn store(from: &[String], to: &Path) -> std::io::Result<()> {
     let mut stored = Stored::default();
-    let list = std::fs::read_to_string(from.join("list.txt"))?;
-    for line in list.lines() {
-        let mut words = line.split(' ');
-        let name = words.next().unwrap_or_default();
-        let label = words.next_back().unwrap_or_default();
-        let instance = std::fs::read(from.join(format!("{name}.instance")))?;
-        let plan = std::fs::read(from.join(format!("{name}.plan")))?;
-        stored.add(label, &instance, &plan, TABLE_WORDS);
-        if OTHERWISE_LENT.contains(&label) {
-            for words in OTHER_LENGTHS {
-                stored.add(&format!("{label}-table-{words}"), &instance, &plan, words);
-            }
+    for folder in from {
+        for case in case_folder::read(Path::new(folder))? {
+            stored.add_case(&case);
         }
     }
     let data = to.join("data");
@@ -88,28 +91,33 @@ fn store(from: &Path, to: &Path) -> std::io::Result<()> {
 }
 
 impl Stored {
-    fn add(&mut self, label: &str, instance: &[u8], plan: &[u8], words: usize) {
+    fn add_case(&mut self, case: &ListedCase) {
+        self.add(&case.label, case, TABLE_WORDS);
+        if OTHERWISE_LENT.contains(&case.label.as_str()) {
+            for words in OTHER_LENGTHS {
+                self.add(&format!("{}-table-{words}", case.label), case, words);
+            }
+        }
+    }
+
+    fn add(&mut self, label: &str, case: &ListedCase, words: usize) {
+        let (instance, plan) = (&case.instance, &case.plan);
         let (a, b) = (self.files.place(instance), self.files.place(plan));
-        let case = format!("case={a},{},{b},{},{words}", instance.len(), plan.len());
-        writeln!(self.cases, "{case}").expect("a string takes every line");
+        let line = format!("case={a},{},{b},{},{words}", instance.len(), plan.len());
+        writeln!(self.cases, "{line}").expect("a string takes every line");
         writeln!(self.labels, "{label}").expect("a string takes every line");
         let printed = printed(instance, plan, words);
         writeln!(self.printed, "{printed}").expect("a string takes every line");
     }
 }
 
-/// The line for one case: number, two places, checksum of the whole table; then for the answer's bad line and for each that is asked
-/// besides: its file, start and end, and a checksum of its bytes.
+/// The line for one case: number, three places, cost, used trucks, checksum of the whole table; then for the answer's bad line and for
+/// each that is asked besides: its file, start and end, and a checksum of its bytes.
 fn printed(instance: &[u8], plan: &[u8], words: usize) -> String {
     let mut table = vec![BEFORE; TABLE_WORDS];
     let answer = check(instance, plan, &mut table[..words]);
-    // Reading goes up to verdict 8: what a rule refuses is readable.
-    let (number, first, second) = match answer.number {
-        1..=8 => (answer.number, answer.first, answer.second),
-        _ => (0, 0, 0),
-    };
-    let mut line = format!("{number} {first} {second} {}", checksum(table.into_iter()));
-    for (number, asked) in [(number, first)].into_iter().chain(ASKED) {
+    let mut line = format!("{} {}", answer.in_one_line(), checksum(table.into_iter()));
+    for (number, asked) in [(answer.number, answer.first)].into_iter().chain(ASKED) {
         let (file, start, end) = located(instance, plan, number, asked);
         let bytes = bad_line(instance, plan, number, asked).iter();
         let sum = checksum(bytes.map(|&byte| u32::from(byte)));

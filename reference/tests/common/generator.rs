@@ -50,3 +50,9 @@ pub fn same_files(one: &Path, other: &Path) {
         assert_eq!(first.unwrap(), second.unwrap(), "{name:?}");
     }
 }
+
+/// The label of the case whose stacks this one has in another order.
+pub fn order_group(label: &str) -> Option<&str> {
+    let (group, order) = label.rsplit_once("-order-")?;
+    order.parse::<u32>().ok().map(|_| group)
+}

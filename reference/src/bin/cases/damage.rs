@@ -565,12 +565,15 @@ pub fn nudge(text: &mut Text, rng: &mut Random) -> bool {
     }
 }
 
-/// The stacks in another order, each with its load.
-pub fn reordered(plan: &[u8], rng: &mut Random) -> Vec<u8> {
+/// The stack= line of a stack and its load= line.
+pub type StackLines = Vec<Vec<u8>>;
+
+/// The stacks of a readable plan in another order, each with its load.
+pub fn reordered(plan: &[u8], order: impl FnOnce(&mut [StackLines])) -> Vec<u8> {
     let mut text = Text::new(plan, 0, 0);
-    let mut pairs: Vec<Vec<Vec<u8>>> = text.lines[1..].chunks(2).map(<[Vec<u8>]>::to_vec).collect();
-    rng.shuffle(&mut pairs);
+    let mut stacks: Vec<StackLines> = text.lines[1..].chunks(2).map(<[Vec<u8>]>::to_vec).collect();
+    order(&mut stacks);
     text.lines.truncate(1);
-    text.lines.extend(pairs.into_iter().flatten());
+    text.lines.extend(stacks.into_iter().flatten());
     text.bytes()
 }

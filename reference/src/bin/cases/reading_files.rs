@@ -65,12 +65,17 @@ fn add_sizes(cases: &mut Cases) {
     let load = Load::unchanged();
     let (instance, plan) = (load.instance.bytes(), load.plan.bytes());
     for size in [65_536, 65_535] {
-        let filled = |file: &[u8]| [file, &b"0".repeat(size - file.len())].concat();
-        cases.add_files(format!("instance-{size}-bytes"), filled(&instance), plan.clone());
-        cases.add_files(format!("plan-{size}-bytes"), instance.clone(), filled(&plan));
-        cases.add_files(format!("both-{size}-bytes"), filled(&instance), filled(&plan));
-        cases.add_files(format!("empty-instance-plan-{size}-bytes"), Vec::new(), filled(&plan));
+        let (long_instance, long_plan) = (filled(&instance, size), filled(&plan, size));
+        cases.add_files(format!("instance-{size}-bytes"), long_instance.clone(), plan.clone());
+        cases.add_files(format!("plan-{size}-bytes"), instance.clone(), long_plan.clone());
+        cases.add_files(format!("both-{size}-bytes"), long_instance, long_plan.clone());
+        cases.add_files(format!("empty-instance-plan-{size}-bytes"), Vec::new(), long_plan);
     }
+}
+
+/// The file made longer by an unended line.
+pub fn filled(file: &[u8], size: usize) -> Vec<u8> {
+    [file, &b"0".repeat(size - file.len())].concat()
 }
 
 /// The same identifier twice in a list, next to each other or not, and the same stack number twice.

@@ -1,6 +1,6 @@
 //! Chooses what a case is to show and makes it.
 
-use crate::damage::{self, Damage, Text};
+use crate::damage::{self, Damage, StackLines, Text};
 use crate::mutate::{Change, CHANGES};
 use crate::packed::{packed, Case, Size, Wish};
 use crate::random::Random;
@@ -27,31 +27,31 @@ impl Made {
         }
     }
 
-    fn of(kind: impl Into<String>, case: &Case) -> Self {
+    pub fn of(kind: impl Into<String>, case: &Case) -> Self {
         Made::new(kind, render::instance(&case.instance), render::plan(&case.plan))
     }
 }
 
 /// Every verdict that a full table and short files can reach.
-const TARGETS: [u32; 26] = [
+pub const TARGETS: [u32; 26] = [
     0, 4, 5, 6, 7, 8, 9, 10, 11, 12, 13, 14, 15, 16, 17, 18, 19, 20, 21, 22, 23, 24, 25, 26, 27, 28,
 ];
 
-const SMALL: Size = Size {
+pub const SMALL: Size = Size {
     items: 8,
     trucks: 3,
     stacks: 8,
     products: 4,
     docks: 4,
 };
-const MEDIUM: Size = Size {
+pub const MEDIUM: Size = Size {
     items: 40,
     trucks: 6,
     stacks: 30,
     products: 12,
     docks: 5,
 };
-const LARGE: Size = Size {
+pub const LARGE: Size = Size {
     items: 256,
     trucks: 16,
     stacks: 256,
@@ -86,7 +86,7 @@ pub fn make(rng: &mut Random, small: bool) -> Made {
 }
 
 /// Repeats until the case gets the verdict aimed at, which some shapes cannot.
-fn aimed(rng: &mut Random, size: Size, target: u32) -> Made {
+pub fn aimed(rng: &mut Random, size: Size, target: u32) -> Made {
     let mut made = aimed_once(rng, size, target);
     for _ in 0..150 {
         if made.answer.number == target {
@@ -98,12 +98,17 @@ fn aimed(rng: &mut Random, size: Size, target: u32) -> Made {
 }
 
 /// A change taken as it comes, so that some fall on the accepted side of the edge.
-fn unaimed(rng: &mut Random, size: Size) -> Made {
+pub fn unaimed(rng: &mut Random, size: Size) -> Made {
     let (target, label, change) = rng.pick(CHANGES);
+    changed_once(rng, size, target, format!("{label}-any"), change)
+}
+
+/// One change of a case that suits its verdict, whether it then gets that verdict or not.
+pub fn changed_once(rng: &mut Random, size: Size, target: u32, kind: impl Into<String>, change: Change) -> Made {
     let wish = wish_for(rng, target);
     let mut case = packed(rng, size, wish);
     change(&mut case, rng);
-    Made::of(format!("{label}-any"), &case)
+    Made::of(kind, &case)
 }
 
 fn wish_for(rng: &mut Random, target: u32) -> Wish {
@@ -182,7 +187,7 @@ fn damaged(rng: &mut Random, size: Size, list: &[(&str, Damage)], instance: bool
 }
 
 /// Two damages, in one file or both, so that the first bad line and form before range matter.
-fn damaged_twice(rng: &mut Random, size: Size) -> Made {
+pub fn damaged_twice(rng: &mut Random, size: Size) -> Made {
     let wish = wish_for(rng, 0);
     let (mut first, mut second) = texts(&packed(rng, size, wish));
     let all: Vec<(&str, Damage)> = damage::FORM.iter().chain(damage::RANGE).copied().collect();
@@ -196,7 +201,7 @@ fn damaged_twice(rng: &mut Random, size: Size) -> Made {
 }
 
 /// A plan on the edge with one number of either file moved by one.
-fn nudged(rng: &mut Random, size: Size) -> Made {
+pub fn nudged(rng: &mut Random, size: Size) -> Made {
     let wish = Wish {
         tight: true,
         ..wish_for(rng, 0)
@@ -210,7 +215,7 @@ fn nudged(rng: &mut Random, size: Size) -> Made {
 }
 
 /// Some numbers put at an end of their range, which leaves both files readable.
-fn at_range_end(rng: &mut Random, size: Size) -> Made {
+pub fn at_range_end(rng: &mut Random, size: Size) -> Made {
     let wish = wish_for(rng, 0);
     let (mut first, mut second) = texts(&packed(rng, size, wish));
     for _ in 0..rng.between(1, 3) {
@@ -262,16 +267,22 @@ fn with_other_order(rng: &mut Random, made: Made, keep: bool) -> Made {
     if !readable {
         return made;
     }
-    let plan = damage::reordered(&made.plan, rng);
-    let other = Made::new(format!("{}-reordered", made.kind), made.instance.clone(), plan);
-    assert_eq!(
-        other.answer, made.answer,
-        "the order of the stacks changed the answer of {}",
-        made.kind
-    );
+    let other = in_other_order(&made, format!("{}-reordered", made.kind), |stacks| rng.shuffle(stacks));
     if keep {
         other
     } else {
         made
     }
+}
+
+/// The same load with the stacks of its plan put in another order.
+pub fn in_other_order(made: &Made, kind: impl Into<String>, order: impl FnOnce(&mut [StackLines])) -> Made {
+    let plan = damage::reordered(&made.plan, order);
+    let other = Made::new(kind, made.instance.clone(), plan);
+    assert_eq!(
+        other.answer, made.answer,
+        "the order of the stacks changed the answer of {}",
+        made.kind
+    );
+    other
 }

@@ -3,8 +3,8 @@ use mathlib.Core.Path.{_≡_}
 use Prim.Native.Nat.{_-_}
 use lib.ListN.{length}
 use borrow.Author.Needs.{needs}
-use Rattle.reading_cases.proofs.run.Statement.{statement}
-use Rattle.reading_cases.proofs.run.Tie as tie
+use Rattle.stored_cases.proofs.run.Statement.{statement}
+use Rattle.stored_cases.proofs.run.Tie as tie
 
 abbrev Inv-loop : tie.InvT-loop
 Inv-loop cases files table₀ at₀ t9 table at = length table ≡ length table₀

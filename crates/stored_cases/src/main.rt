@@ -1,6 +1,7 @@
-// Runs the stored cases through the reading call. Every word of the table holds a number before each call. Printed for each case: the
-// verdict's number (0 for readable files), its first two places and a checksum of the whole table; then, for the answer's bad line and for
-// five further verdicts and lines: 0 for the instance or 1 for the plan, the line's start and end there, and a checksum of its bytes.
+// Runs the stored cases through the check. Every word of the table holds a number before each call. Printed for each case: the answer
+// (number, three places, cost, used trucks) and a checksum of the whole table; then, for the answer's bad line and for five further
+// verdicts and lines: 0 for the instance or 1 for the plan, the line's start and end there, and a checksum of its bytes. A verdict that
+// names no line has the empty part at the instance's end.
 //
 // data/files.bin has the files of all cases; a line of data/cases.txt says where a case's instance begins and how long it is, the same
 // of its plan, and how many words of the table are lent. data/labels.txt says in a word what each case tries.
@@ -97,11 +98,14 @@ fn print_asked_lines<'a>(instance: &'a [u8], plan: &'a [u8]) {
     print_line(instance, plan, 6, 1);
 }
 
-// Prints the answer of a case.
+// Prints the answer of a case and the checksum of its table.
 fn print_case<'a>(instance: &'a [u8], plan: &'a [u8], answer: Answer, table: u64) {
     print(wide(answer.number), b" ");
     print(wide(answer.first), b" ");
     print(wide(answer.second), b" ");
+    print(wide(answer.third), b" ");
+    print(answer.cost, b" ");
+    print(wide(answer.trucks), b" ");
     print(table, b"");
     print_line(instance, plan, answer.number, answer.first);
     print_asked_lines(instance, plan);
@@ -115,13 +119,8 @@ fn run_case<'a>(instance: &'a [u8], plan: &'a [u8], lent: u32, table: &mut [u32]
         return;
     }
     fill(table, 7);
-    let read = reading::read_files(instance, plan, &mut table[0..words]);
-    print_case(
-        instance,
-        plan,
-        reading::refusal_answer(read),
-        checksum(table),
-    );
+    let answer = checking::check(instance, plan, &mut table[0..words]);
+    print_case(instance, plan, answer, checksum(table));
 }
 
 // The part of the files that a case names; nothing where it lies outside.
@@ -157,11 +156,16 @@ fn run(cases: &[u8], files: &[u8], table: &mut [u32]) {
     }
 }
 
+// Every case, with the cases and their files read into the lent bytes.
+fn run_all(cases: &mut [u8], files: &mut [u8], table: &mut [u32]) {
+    let n = read_file(b"cases.txt", cases);
+    let m = read_file(b"files.bin", files);
+    run(&cases[..n], &files[..m], table);
+}
+
 fn main() {
     let mut cases = [0u8; 65536];
-    let mut files = [0u8; 655360];
+    let mut files = [0u8; 1572864];
     let mut table = [0u32; 8980];
-    let n = read_file(b"cases.txt", &mut cases);
-    let m = read_file(b"files.bin", &mut files);
-    run(&cases[..n], &files[..m], &mut table);
+    run_all(&mut cases, &mut files, &mut table);
 }

@@ -3,8 +3,8 @@ use mathlib.Core.Path.{_≡_}
 use Prim.Native.Nat.{_-_}
 use lib.ListN.{length}
 use borrow.Author.Needs.{needs}
-use Rattle.reading_cases.proofs.fill.Statement.{statement}
-use Rattle.reading_cases.proofs.fill.Tie as tie
+use Rattle.stored_cases.proofs.fill.Statement.{statement}
+use Rattle.stored_cases.proofs.fill.Tie as tie
 
 abbrev Inv-loop : tie.InvT-loop
 Inv-loop words₀ word i₀ words i = length words ≡ length words₀

@@ -1,15 +1,15 @@
--- The loop ends, and no sum overflows: a byte is below 256 and a remainder below 2 to the 32.
+-- The loop ends, and no sum overflows: a word and a remainder are both below 2 to the 32.
 use Prim.Native.Nat.{_≤_, _-_}
 use lib.ListN.{length}
 use borrow.Author.Needs.{needs}
-use Rattle.reading_cases.proofs.byte_checksum.Statement.{statement}
-use Rattle.reading_cases.proofs.byte_checksum.Tie as tie
+use Rattle.stored_cases.proofs.checksum.Statement.{statement}
+use Rattle.stored_cases.proofs.checksum.Tie as tie
 
 abbrev Inv-loop : tie.InvT-loop
-Inv-loop bytes sum₀ i₀ sum i = i ≤ length bytes
+Inv-loop words sum₀ i₀ sum i = i ≤ length words
 
 abbrev μ-loop : tie.MeasureT-loop
-μ-loop bytes sum₀ i₀ sum i = length bytes - i
+μ-loop words sum₀ i₀ sum i = length words - i
 
 loop-holds : tie.Need-loop-holds Inv-loop μ-loop
 loop-holds c = search needs
@@ -17,11 +17,14 @@ loop-holds c = search needs
 mul-sum : tie.Need-mul-sum Inv-loop μ-loop
 mul-sum c = search needs
 
-shared-slice-read-wide-byte : tie.Need-shared-slice-read-wide-byte Inv-loop μ-loop
-shared-slice-read-wide-byte c = search needs
+mul-wide : tie.Need-mul-wide Inv-loop μ-loop
+mul-wide c = search needs
 
-wide-byte-requires : tie.Need-wide-byte-requires Inv-loop μ-loop
-wide-byte-requires c κs = search needs
+shared-slice-read-wide : tie.Need-shared-slice-read-wide Inv-loop μ-loop
+shared-slice-read-wide c = search needs
+
+wide-requires : tie.Need-wide-requires Inv-loop μ-loop
+wide-requires c κs = search needs
 
 add-sum : tie.Need-add-sum Inv-loop μ-loop
 add-sum c = search needs
@@ -38,16 +41,17 @@ loop-again c = search needs
 returns : tie.Need-returns Inv-loop μ-loop
 returns c = search needs
 
-pub byte-checksum-spec : {M : Type 1} → statement M
-byte-checksum-spec =
+pub checksum-spec : {M : Type 1} → statement M
+checksum-spec =
     tie.close
     (tie.spec
     Inv-loop
     μ-loop
     loop-holds
     mul-sum
-    shared-slice-read-wide-byte
-    wide-byte-requires
+    mul-wide
+    shared-slice-read-wide
+    wide-requires
     add-sum
     add-i
     loop-less
