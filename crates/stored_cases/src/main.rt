@@ -6,29 +6,11 @@
 // data/files.bin has the files of all cases; a line of data/cases.txt says where a case's instance begins and how long it is, the same
 // of its plan, and how many words of the table are lent. data/labels.txt says in a word what each case tries.
 ghost use Prim.Native.Nat.{_<_};
-ghost use Rattle.io.specs.Counts.{Counts};
-use libc::STDOUT_FILENO;
+use fileio::print;
+use fileio::print_number;
+use fileio::read_file;
 use meaning::Answer;
 use text::ParsedLine;
-
-// How many bytes of a file stand in front of the buffer now. A file that is not there has none.
-fn read_file(path: &[u8], buffer: &mut [u8]) -> usize
-    ensures { λ r. ⌜ Counts r (now (buffer .exit)) ⌝ }
-{
-    let file = os::open_read(path);
-    if file < 0 {
-        return 0;
-    }
-    let count = io::read_full(file, buffer);
-    libc::close(file);
-    count
-}
-
-// A number and what stands behind it.
-fn print(n: u64, behind: &[u8]) {
-    io::print_decimal(STDOUT_FILENO, n);
-    io::write_all(STDOUT_FILENO, behind);
-}
 
 // Every word becomes this one.
 fn fill(words: &mut [u32], word: u32) {
@@ -79,11 +61,11 @@ fn byte_checksum(bytes: &[u8]) -> u64 {
 fn print_line<'a>(instance: &'a [u8], plan: &'a [u8], number: u32, line: u32) {
     let part = badline::locate(instance, plan, number, line);
     let file: u64 = if part.plan { 1 } else { 0 };
-    io::write_all(STDOUT_FILENO, b"; ");
-    print(file, b" ");
-    print(part.start as u64, b" ");
-    print(part.end as u64, b" ");
-    print(
+    print(b"; ");
+    print_number(file, b" ");
+    print_number(part.start as u64, b" ");
+    print_number(part.end as u64, b" ");
+    print_number(
         byte_checksum(badline::bad_line(instance, plan, number, line)),
         b"",
     );
@@ -100,16 +82,16 @@ fn print_asked_lines<'a>(instance: &'a [u8], plan: &'a [u8]) {
 
 // Prints the answer of a case and the checksum of its table.
 fn print_case<'a>(instance: &'a [u8], plan: &'a [u8], answer: Answer, table: u64) {
-    print(wide(answer.number), b" ");
-    print(wide(answer.first), b" ");
-    print(wide(answer.second), b" ");
-    print(wide(answer.third), b" ");
-    print(answer.cost, b" ");
-    print(wide(answer.trucks), b" ");
-    print(table, b"");
+    print_number(wide(answer.number), b" ");
+    print_number(wide(answer.first), b" ");
+    print_number(wide(answer.second), b" ");
+    print_number(wide(answer.third), b" ");
+    print_number(answer.cost, b" ");
+    print_number(wide(answer.trucks), b" ");
+    print_number(table, b"");
     print_line(instance, plan, answer.number, answer.first);
     print_asked_lines(instance, plan);
-    io::write_all(STDOUT_FILENO, b"\n");
+    print(b"\n");
 }
 
 // One case, with so many words of the table lent.
