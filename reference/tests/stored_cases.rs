@@ -65,3 +65,22 @@ fn stored_plans_have_the_same_answer_in_every_order() {
         assert_eq!(stored[label], stored[first], "{label}");
     }
 }
+
+#[test]
+fn a_table_is_short_below_the_named_words() {
+    let stored: BTreeMap<String, Vec<String>> = stored_answers().into_iter().collect();
+    let mut lent = 0;
+    for (label, answer) in &stored {
+        let Some((whole, words)) = label.rsplit_once("-table-") else {
+            continue;
+        };
+        if words == "8976" {
+            assert_eq!(answer, &stored[whole], "{label}");
+        } else {
+            assert_eq!(answer.join(" "), "1 0 0 0 0 0", "{label}");
+        }
+        lent += 1;
+    }
+    // Seven cases, each with three lengths.
+    assert_eq!(lent, 21);
+}

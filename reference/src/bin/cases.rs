@@ -10,6 +10,8 @@ mod limits;
 mod mutate;
 #[path = "cases/packed.rs"]
 mod packed;
+#[path = "cases/plant_docks.rs"]
+mod plant_docks;
 #[path = "cases/random.rs"]
 mod random;
 #[path = "cases/reading.rs"]

@@ -1,12 +1,13 @@
 //! A fixed list of cases through the whole check: some aimed at each verdict, others taken as they come, overlong files, plans of full
 //! size, and plans whose stacks are given in several orders. Every draw comes from one seed, so the files are always the same.
 
-use crate::mutate::{Change, CHANGES};
+use crate::mutate::{mixed_supplier_alone, Change, CHANGES};
 use crate::packed::{packed, Case, Size, Wish};
+use crate::plant_docks;
 use crate::random::Random;
 use crate::reading::Load;
 use crate::reading_files::filled;
-use crate::recipe::{aimed, at_range_end, changed_once, damaged_twice, in_other_order, nudged, unaimed};
+use crate::recipe::{aimed, at_range_end, changed_once, damaged_twice, in_other_order, nudged, unaimed, wish_for};
 use crate::recipe::{Made, LARGE, MEDIUM, SMALL, TARGETS};
 use reference::MOST_BYTES;
 
@@ -33,6 +34,7 @@ const UNAIMED: [(Recipe, u64); 4] = [(unaimed, 50), (nudged, 60), (at_range_end,
 enum Group {
     Small,
     Changes,
+    Neighbours,
     Medium,
     Unaimed,
     Overlong,
@@ -48,6 +50,8 @@ pub fn all() -> Vec<Made> {
     let mut cases = Vec::new();
     add_small(&mut cases);
     add_changes(&mut cases);
+    add_neighbours(&mut cases);
+    cases.extend(plant_docks::all());
     add_medium(&mut cases);
     add_unaimed(&mut cases);
     add_overlong(&mut cases);
@@ -60,18 +64,19 @@ fn add(cases: &mut Vec<Made>, label: String, made: Made) {
     cases.push(Made { kind: label, ..made });
 }
 
-/// The first draw that is as it is wanted.
-fn drawn(mut draw: impl FnMut() -> Made, wanted: impl Fn(&Made) -> bool) -> Made {
-    let mut draws = (0..MOST_TRIES).map(|_| draw());
-    draws.find(wanted).expect("some draw is as it is wanted")
+/// The first draw that gives a case.
+fn drawn(mut draw: impl FnMut() -> Option<Made>) -> Made {
+    let found = (0..MOST_TRIES).find_map(|_| draw());
+    found.expect("some draw gives a case")
+}
+
+fn with_verdict(made: Made, target: u32) -> Option<Made> {
+    (made.answer.number == target).then_some(made)
 }
 
 /// A case that has the verdict aimed at, and at least so many stacks.
 fn reached(rng: &mut Random, size: Size, target: u32, stacks: usize) -> Made {
-    drawn(
-        || aimed(rng, size, target),
-        |made| made.answer.number == target && stack_lines(&made.plan) >= stacks,
-    )
+    drawn(|| with_verdict(aimed(rng, size, target), target).filter(|made| stack_lines(&made.plan) >= stacks))
 }
 
 fn stack_lines(plan: &[u8]) -> usize {
@@ -91,14 +96,43 @@ fn add_small(cases: &mut Vec<Made>) {
 
 /// Each change by itself, where it gets the verdict that it is aimed at.
 fn add_changes(cases: &mut Vec<Made>) {
-    for (index, &(target, label, change)) in (0..).zip(CHANGES) {
+    let further: [(u32, &str, Change); 1] = [(15, "mixed-supplier-same-dock", mixed_supplier_alone)];
+    for (index, &(target, label, change)) in (0..).zip(CHANGES.iter().chain(&further)) {
         let mut rng = stream(Group::Changes, index);
         let label = format!("aimed-{target}-{label}-alone");
-        cases.push(drawn(
-            || changed_once(&mut rng, SMALL, target, &label, change),
-            |made| made.answer.number == target,
-        ));
+        cases.push(drawn(|| {
+            with_verdict(changed_once(&mut rng, SMALL, target, &label, change), target)
+        }));
     }
+}
+
+/// Two rules broken that follow each other: the first of them is told.
+fn add_neighbours(cases: &mut Vec<Made>) {
+    for target in 9..28 {
+        let mut rng = stream(Group::Neighbours, u64::from(target));
+        cases.push(drawn(|| broken_twice(&mut rng, target)));
+    }
+}
+
+/// The later rule is broken before the earlier one, so that it is seen to be broken.
+fn broken_twice(rng: &mut Random, target: u32) -> Option<Made> {
+    let later = target + 1;
+    let suited = rng.pick(&[target, later]);
+    let wish = wish_for(rng, suited);
+    let mut case = packed(rng, SMALL, wish);
+    change_for(rng, later)(&mut case, rng);
+    with_verdict(Made::of("", &case), later)?;
+    change_for(rng, target)(&mut case, rng);
+    with_verdict(Made::of(format!("aimed-{target}-before-{later}"), &case), target)
+}
+
+fn change_for(rng: &mut Random, target: u32) -> Change {
+    let fitting: Vec<Change> = CHANGES
+        .iter()
+        .filter(|change| change.0 == target)
+        .map(|change| change.2)
+        .collect();
+    rng.pick(&fitting)
 }
 
 /// One for each verdict on files that are read.
@@ -153,25 +187,19 @@ fn add_large(cases: &mut Vec<Made>) {
         cases.push(broken(&mut rng, &case, &format!("large-one-truck-{word}"), target));
     }
     add_in_orders(cases, &mut rng, "large-one-truck", Made::of("", &case));
-    cases.push(drawn(
-        || Made::of("large-spread", &packed(&mut rng, LARGE, spread)),
-        |made| made.answer.trucks >= SPREAD,
-    ));
+    cases.push(drawn(|| {
+        let made = Made::of("large-spread", &packed(&mut rng, LARGE, spread));
+        (made.answer.trucks >= SPREAD).then_some(made)
+    }));
 }
 
 /// The case with a change that gets it the verdict aimed at.
 fn broken(rng: &mut Random, case: &Case, label: &str, target: u32) -> Made {
-    let fitting: Vec<Change> = CHANGES
-        .iter()
-        .filter(|change| change.0 == target)
-        .map(|change| change.2)
-        .collect();
-    let draw = || {
+    drawn(|| {
         let mut other = case.clone();
-        rng.pick(&fitting)(&mut other, rng);
-        Made::of(label, &other)
-    };
-    drawn(draw, |made| made.answer.number == target)
+        change_for(rng, target)(&mut other, rng);
+        with_verdict(Made::of(label, &other), target)
+    })
 }
 
 /// Accepted plans, and one for each rule.
@@ -189,10 +217,10 @@ fn add_in_orders(cases: &mut Vec<Made>, rng: &mut Random, label: &str, made: Mad
     let reversed = in_other_order(&made, format!("{label}-order-1"), |stacks| stacks.reverse());
     let rotated = in_other_order(&made, format!("{label}-order-2"), |stacks| stacks.rotate_left(1));
     let so_far = [&made.plan, &reversed.plan, &rotated.plan];
-    let shuffled = drawn(
-        || in_other_order(&made, format!("{label}-order-3"), |stacks| rng.shuffle(stacks)),
-        |other| !so_far.contains(&&other.plan),
-    );
+    let shuffled = drawn(|| {
+        let other = in_other_order(&made, format!("{label}-order-3"), |stacks| rng.shuffle(stacks));
+        (!so_far.contains(&&other.plan)).then_some(other)
+    });
     add(cases, label.to_string(), made);
     cases.extend([reversed, rotated, shuffled]);
 }

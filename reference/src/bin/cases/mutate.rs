@@ -389,6 +389,26 @@ fn mixed_supplier(case: &mut Case, rng: &mut Random) -> bool {
     differs
 }
 
+/// An item gets another supplier, which has a dock of the same number, so that it differs from the others of its stack by the supplier
+/// alone. No part of `CHANGES`, whose random choice decides which cases a seed gives.
+pub fn mixed_supplier_alone(case: &mut Case, rng: &mut Random) -> bool {
+    let Some((stack, number)) = mixable(case, rng) else {
+        return false;
+    };
+    let truck = case.plan.stacks[stack].truck as usize - 1;
+    let dock = item_mut(case, number).supplier_dock;
+    let truck = &mut case.instance.trucks[truck];
+    let place = rng.below(truck.suppliers.len());
+    let supplier = truck.suppliers[place];
+    if !truck.docks[place].contains(&dock) {
+        truck.docks[place][0] = dock;
+    }
+    let item = item_mut(case, number);
+    let differs = item.supplier != supplier;
+    item.supplier = supplier;
+    differs
+}
+
 /// Two stacks exchange an item each.
 fn mixed_swap(case: &mut Case, rng: &mut Random) -> bool {
     let (Some(first), Some(second)) = (stack_at(case, rng, 1), stack_at(case, rng, 1)) else {

@@ -111,7 +111,7 @@ pub fn changed_once(rng: &mut Random, size: Size, target: u32, kind: impl Into<S
     Made::of(kind, &case)
 }
 
-fn wish_for(rng: &mut Random, target: u32) -> Wish {
+pub fn wish_for(rng: &mut Random, target: u32) -> Wish {
     let chance = rng.one_in(3);
     Wish {
         tall: matches!(target, 15..=17 | 19 | 20) || chance,
