@@ -9,7 +9,7 @@ use lib.IntN.{ℤ, pos, natAbs, _+ℤ_, _-ℤ_, _*ℤ_, +ℤ-idl}
 use lib.ListN.{length, getD, take, drop, take-append-drop}
 use Rattle.meaning.specs.declared.Limits.{Limits}
 use Rattle.meaning.specs.Lists.{Every, filter, sum, sumℤ}
-use Rattle.meaning.specs.Model.{Instance, Truck, Stack, truckNumbered, x, EM, EJcr}
+use Rattle.meaning.specs.Model.{Instance, Truck, Stack, x, EM, EJcr}
 use Rattle.meaning.specs.Measures.{sm, xe, weightOn, lever, H}
 use Rattle.meaning.specs.Table.{instanceIn, stacksIn}
 use Rattle.meaning.proofs.Lists.{in-filter, every-reads, every-append}
@@ -22,7 +22,7 @@ use Rattle.visits.specs.Visits.{visitAt, visited, block}
 use Rattle.visits.proofs.Order.{visited-perm}
 use Rattle.visits.proofs.RowMost.{row-most}
 use Rattle.axles.specs.declared.Cargo.{Cargo}
-use Rattle.axles.specs.Aboard.{aboard, CargoIn, isAboard, twiceA, leverBy, leversOf, momentOf}
+use Rattle.axles.specs.Aboard.{aboard, CargoIn, truckOf, isAboard, leverAt, twiceA, leverBy, leversOf, momentOf}
 use Rattle.axles.proofs.Aboard.{onFrom, on-none, on-more}
 use Rattle.axles.proofs.Weights.{on-weight}
 use Rattle.axles.proofs.Signed.{less-size, plus-size, times-size}
@@ -71,7 +71,7 @@ module _ {A : Type 0} (P : A → Type 0) where
 
 -- the levers of those that are on, of the stacks visited from place k on
 abbrev pub leversFrom : Limits → List ℕ → Cargo → ℕ → ℤ
-leversFrom m t c k = leversOf (instanceIn m t) (truckNumbered (instanceIn m t) (c .truck)) (onFrom m t c k)
+leversFrom m t c k = leversOf (instanceIn m t) (truckOf m t c) (onFrom m t c k)
 
 module _ {m : Limits} {t rows : List ℕ} {c : Cargo} (h : CargoIn m t rows c) where
   -- the instance, the plan and the cargo's truck
@@ -82,7 +82,7 @@ module _ {m : Limits} {t rows : List ℕ} {c : Cargo} (h : CargoIn m t rows c) w
   p = stacksIn m t
 
   abbrev truck : Truck
-  truck = truckNumbered i (c .truck)
+  truck = truckOf m t c
 
   -- the levers of some stacks of a block: at most 65536 entries of the loads, each of weight 50000 and with a distance of 80000
   pub levers-size : (k : ℕ) → natAbs (leversFrom m t c k) ≤ 262144000000000
@@ -103,7 +103,7 @@ module _ {m : Limits} {t rows : List ℕ} {c : Cargo} (h : CargoIn m t rows c) w
   levers-none = rw (on-none h) refl
 
   pub levers-more : {k next : ℕ} → next ≡ k + 1 → k < c .end
-      → cond (isAboard m t c k) (lever i truck (visitAt p k)) (pos 0) +ℤ leversFrom m t c next ≡ leversFrom m t c k
+      → cond (isAboard m t c k) (leverAt m t c k) (pos 0) +ℤ leversFrom m t c next ≡ leversFrom m t c k
   unfolding sumℤ
   levers-more {k} {next} step some = rw (on-more h step some) (more (isAboard m t c k) (visitAt p k) (onFrom m t c next))
     where

@@ -22,25 +22,35 @@ unfoldable pub aboard : Instance → List Stack → ℕ → ℕ → List Stack
 unfolding filter orderFrom
 aboard i on first last = filter (λ (s : Stack). between first last (supplierOrder i s)) on
 
--- a filled table with its rows, and cargo of a truck that it has
+-- ---- cargo, as a table holds it
+-- the cargo is of a truck and of visited stacks that a filled table with its rows holds
 pub record CargoIn (m : Limits) (t rows : List ℕ) (c : Cargo) : Type 0 where
   pub held : HoldsRows m t rows
   pub ordered : c .start ≤ c .end
   pub within : c .end ≤ length (stacksIn m t)
   pub known : TruckNumber (instanceIn m t) (c .truck)
 
+-- its truck
+abbrev pub truckOf : Limits → List ℕ → Cargo → Truck
+truckOf m t c = truckNumbered (instanceIn m t) (c .truck)
+
 -- whether the stack that is visited at place k is on, by its supplier
 abbrev pub isAboard : Limits → List ℕ → Cargo → ℕ → Bool
 isAboard m t c k = between (c .first) (c .last) (supplierOrder (instanceIn m t) (visitAt (stacksIn m t) k))
+
+-- the lever of the stack that is visited at place k
+abbrev pub leverAt : Limits → List ℕ → Cargo → ℕ → ℤ
+leverAt m t c k = lever (instanceIn m t) (truckOf m t c) (visitAt (stacksIn m t) k)
 
 -- the stacks that are on
 abbrev pub stacksOn : Limits → List ℕ → Cargo → List Stack
 stacksOn m t c = aboard (instanceIn m t) (block (stacksIn m t) (c .start) (c .end)) (c .first) (c .last)
 
--- a measure or a test of a truck and the stacks on it, for this cargo
+-- what is measured or tested of a truck and the stacks on it, for its truck and the stacks that are on
 abbrev pub onTruck : {A : Type 0} → (Instance → Truck → List Stack → A) → Limits → List ℕ → Cargo → A
-onTruck f m t c = f (instanceIn m t) (truckNumbered (instanceIn m t) (c .truck)) (stacksOn m t c)
+onTruck f m t c = f (instanceIn m t) (truckOf m t c) (stacksOn m t c)
 
+-- ---- the rules
 -- when a rule on an axle is kept: 27 middle, 28 rear
 abbrev pub axleTest : Axle → Instance → Truck → List Stack → Bool
 axleTest Middle i t on = middleAxleHolds i t on

@@ -5,14 +5,14 @@ ghost use mathlib.Core.Bool.{cond};
 ghost use Prim.Native.Nat.{_≤_, _<_};
 ghost use lib.IntN.{pos};
 ghost use Rattle.meaning.specs.Model.{truckNumbered};
-ghost use Rattle.meaning.specs.Measures.{sm, weightOn, lever};
+ghost use Rattle.meaning.specs.Measures.{sm, weightOn};
 ghost use Rattle.meaning.specs.Rules.{truckPlaces, departurePlaces, counts, withinLoadLimit, middleAxleHolds, rearAxleHolds};
 ghost use Rattle.meaning.specs.Table.{instanceIn, stacksIn};
 ghost use Rattle.table.specs.Filled.{Filled, TruckNumber};
 ghost use Rattle.search.specs.Lowest.{lowestIn};
 ghost use Rattle.visits.specs.Visits.{visitAt, block, HoldsRows, OneTruck};
-ghost use Rattle.axles.specs.Aboard.{CargoIn, isAboard, stacksOn, onTruck, axleTest, twiceA, leverBy, leversOf, momentOf, middleHolds};
-ghost use Rattle.axles.specs.Aboard.{rearHolds, Moderate};
+ghost use Rattle.axles.specs.Aboard.{CargoIn, truckOf, isAboard, leverAt, stacksOn, onTruck};
+ghost use Rattle.axles.specs.Aboard.{axleTest, twiceA, leverBy, leversOf, momentOf, middleHolds, rearHolds, Moderate};
 use meaning::Limits;
 use search::Found;
 use search::lower_of;
@@ -123,9 +123,8 @@ fn twice_a(t: &[u32], limits: Limits, truck: u32) -> u32
 // What a visited stack adds to the levers: nothing where it is not on.
 fn lever_part(t: &[u32], limits: Limits, rows: &[u32], cargo: Cargo, k: usize, twice: u32) -> i64
     requires { ⌜ CargoIn limits (now t) (now rows) cargo × (k < cargo .end)
-        × (twice ≡ twiceA (truckNumbered (instanceIn limits (now t)) (cargo .truck))) × (twice ≤ 80000) ⌝ }
-    ensures { λ r. ⌜ r ≡ cond (isAboard limits (now (t .entry)) cargo k) (lever (instanceIn limits (now (t .entry)))
-        (truckNumbered (instanceIn limits (now (t .entry))) (cargo .truck)) (visitAt (stacksIn limits (now (t .entry))) k)) (pos 0) ⌝ }
+        × (twice ≡ twiceA (truckOf limits (now t) cargo)) × (twice ≤ 80000) ⌝ }
+    ensures { λ r. ⌜ r ≡ cond (isAboard limits (now (t .entry)) cargo k) (leverAt limits (now (t .entry)) cargo k) (pos 0) ⌝ }
 {
     let weight = row_word(t, limits, rows, k, row::WEIGHT);
     let x = row_word(t, limits, rows, k, row::X);
