@@ -22,7 +22,7 @@ use Rattle.visits.specs.Visits.{visitAt, visited, block}
 use Rattle.visits.proofs.Order.{visited-perm}
 use Rattle.visits.proofs.RowMost.{row-most}
 use Rattle.axles.specs.declared.Cargo.{Cargo}
-use Rattle.axles.specs.Aboard.{aboard, CargoIn, truckOf, isAboard, leverAt, twiceA, leverBy, leversOf, momentOf}
+use Rattle.axles.specs.Aboard.{aboard, CargoIn, cargoTruck, isAboard, leverAt, twiceA, leverBy, leversOf, momentOf}
 use Rattle.axles.proofs.Aboard.{onFrom, on-none, on-more}
 use Rattle.axles.proofs.Weights.{on-weight}
 use Rattle.axles.proofs.Signed.{less-size, plus-size, times-size}
@@ -71,7 +71,7 @@ module _ {A : Type 0} (P : A → Type 0) where
 
 -- the levers of those that are on, of the stacks visited from place k on
 abbrev pub leversFrom : Limits → List ℕ → Cargo → ℕ → ℤ
-leversFrom m t c k = leversOf (instanceIn m t) (truckOf m t c) (onFrom m t c k)
+leversFrom m t c k = leversOf (instanceIn m t) (cargoTruck m t c) (onFrom m t c k)
 
 module _ {m : Limits} {t rows : List ℕ} {c : Cargo} (h : CargoIn m t rows c) where
   -- the instance, the plan and the cargo's truck
@@ -82,7 +82,7 @@ module _ {m : Limits} {t rows : List ℕ} {c : Cargo} (h : CargoIn m t rows c) w
   p = stacksIn m t
 
   abbrev truck : Truck
-  truck = truckOf m t c
+  truck = cargoTruck m t c
 
   -- the levers of some stacks of a block: at most 65536 entries of the loads, each of weight 50000 and with a distance of 80000
   pub levers-size : (k : ℕ) → natAbs (leversFrom m t c k) ≤ 262144000000000

@@ -31,8 +31,8 @@ pub record CargoIn (m : Limits) (t rows : List ℕ) (c : Cargo) : Type 0 where
   pub known : TruckNumber (instanceIn m t) (c .truck)
 
 -- its truck
-abbrev pub truckOf : Limits → List ℕ → Cargo → Truck
-truckOf m t c = truckNumbered (instanceIn m t) (c .truck)
+abbrev pub cargoTruck : Limits → List ℕ → Cargo → Truck
+cargoTruck m t c = truckNumbered (instanceIn m t) (c .truck)
 
 -- whether the stack that is visited at place k is on, by its supplier
 abbrev pub isAboard : Limits → List ℕ → Cargo → ℕ → Bool
@@ -40,15 +40,15 @@ isAboard m t c k = between (c .first) (c .last) (supplierOrder (instanceIn m t) 
 
 -- the lever of the stack that is visited at place k
 abbrev pub leverAt : Limits → List ℕ → Cargo → ℕ → ℤ
-leverAt m t c k = lever (instanceIn m t) (truckOf m t c) (visitAt (stacksIn m t) k)
+leverAt m t c k = lever (instanceIn m t) (cargoTruck m t c) (visitAt (stacksIn m t) k)
 
 -- the stacks that are on
-abbrev pub stacksOn : Limits → List ℕ → Cargo → List Stack
-stacksOn m t c = aboard (instanceIn m t) (block (stacksIn m t) (c .start) (c .end)) (c .first) (c .last)
+abbrev pub cargoStacks : Limits → List ℕ → Cargo → List Stack
+cargoStacks m t c = aboard (instanceIn m t) (block (stacksIn m t) (c .start) (c .end)) (c .first) (c .last)
 
--- what is measured or tested of a truck and the stacks on it, for its truck and the stacks that are on
-abbrev pub onTruck : {A : Type 0} → (Instance → Truck → List Stack → A) → Limits → List ℕ → Cargo → A
-onTruck f m t c = f (instanceIn m t) (truckOf m t c) (stacksOn m t c)
+-- what is measured or tested of a truck and the stacks on it, for this cargo
+abbrev pub ofCargo : {A : Type 0} → (Instance → Truck → List Stack → A) → Limits → List ℕ → Cargo → A
+ofCargo f m t c = f (instanceIn m t) (cargoTruck m t c) (cargoStacks m t c)
 
 -- ---- the rules
 -- when a rule on an axle is kept: 27 middle, 28 rear

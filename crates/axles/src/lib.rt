@@ -11,7 +11,7 @@ ghost use Rattle.meaning.specs.Table.{instanceIn, stacksIn};
 ghost use Rattle.table.specs.Filled.{Filled, TruckNumber};
 ghost use Rattle.search.specs.Lowest.{lowestIn};
 ghost use Rattle.visits.specs.Visits.{visitAt, block, HoldsRows, OneTruck};
-ghost use Rattle.axles.specs.Aboard.{CargoIn, truckOf, isAboard, leverAt, stacksOn, onTruck};
+ghost use Rattle.axles.specs.Aboard.{CargoIn, cargoTruck, isAboard, leverAt, cargoStacks, ofCargo};
 ghost use Rattle.axles.specs.Aboard.{axleTest, twiceA, leverBy, leversOf, momentOf, middleHolds, rearHolds, Moderate};
 use meaning::Limits;
 use search::Found;
@@ -61,7 +61,7 @@ fn is_aboard(t: &[u32], limits: Limits, rows: &[u32], cargo: Cargo, k: usize) ->
 // Whether a departure counts, which it does where a stack is on.
 fn departure_counts(t: &[u32], limits: Limits, rows: &[u32], cargo: Cargo) -> bool
     requires { ⌜ CargoIn limits (now t) (now rows) cargo ⌝ }
-    ensures { λ r. ⌜ r ≡ counts (stacksOn limits (now (t .entry)) cargo) ⌝ }
+    ensures { λ r. ⌜ r ≡ counts (cargoStacks limits (now (t .entry)) cargo) ⌝ }
 {
     let end = cargo.end;
     let mut k = cargo.start;
@@ -90,7 +90,7 @@ fn weight_part(t: &[u32], limits: Limits, rows: &[u32], cargo: Cargo, k: usize) 
 // The weight of the stacks that are on.
 fn weight_aboard(t: &[u32], limits: Limits, rows: &[u32], cargo: Cargo) -> u64
     requires { ⌜ CargoIn limits (now t) (now rows) cargo ⌝ }
-    ensures { λ r. ⌜ (r ≡ weightOn (instanceIn limits (now (t .entry))) (stacksOn limits (now (t .entry)) cargo)) × (r ≤ 3276800000) ⌝ }
+    ensures { λ r. ⌜ (r ≡ weightOn (instanceIn limits (now (t .entry))) (cargoStacks limits (now (t .entry)) cargo)) × (r ≤ 3276800000) ⌝ }
 {
     let start = cargo.start;
     let mut sum: u64 = 0;
@@ -123,7 +123,7 @@ fn twice_a(t: &[u32], limits: Limits, truck: u32) -> u32
 // What a visited stack adds to the levers: nothing where it is not on.
 fn lever_part(t: &[u32], limits: Limits, rows: &[u32], cargo: Cargo, k: usize, twice: u32) -> i64
     requires { ⌜ CargoIn limits (now t) (now rows) cargo × (k < cargo .end)
-        × (twice ≡ twiceA (truckOf limits (now t) cargo)) × (twice ≤ 80000) ⌝ }
+        × (twice ≡ twiceA (cargoTruck limits (now t) cargo)) × (twice ≤ 80000) ⌝ }
     ensures { λ r. ⌜ r ≡ cond (isAboard limits (now (t .entry)) cargo k) (leverAt limits (now (t .entry)) cargo k) (pos 0) ⌝ }
 {
     let weight = row_word(t, limits, rows, k, row::WEIGHT);
@@ -138,7 +138,7 @@ fn lever_part(t: &[u32], limits: Limits, rows: &[u32], cargo: Cargo, k: usize, t
 // The levers of the stacks that are on.
 fn levers_aboard(t: &[u32], limits: Limits, rows: &[u32], cargo: Cargo) -> i64
     requires { ⌜ CargoIn limits (now t) (now rows) cargo ⌝ }
-    ensures { λ r. ⌜ r ≡ onTruck leversOf limits (now (t .entry)) cargo ⌝ }
+    ensures { λ r. ⌜ r ≡ ofCargo leversOf limits (now (t .entry)) cargo ⌝ }
 {
     let start = cargo.start;
     let twice = twice_a(t, limits, cargo.truck);
@@ -154,7 +154,7 @@ fn levers_aboard(t: &[u32], limits: Limits, rows: &[u32], cargo: Cargo) -> i64
 // H: the levers of the stacks that are on, and of the trailer.
 fn moment(t: &[u32], limits: Limits, rows: &[u32], cargo: Cargo) -> i64
     requires { ⌜ CargoIn limits (now t) (now rows) cargo ⌝ }
-    ensures is { λ r. ⌜ r ≡ onTruck momentOf limits (now (t .entry)) cargo ⌝ }
+    ensures is { λ r. ⌜ r ≡ ofCargo momentOf limits (now (t .entry)) cargo ⌝ }
     ensures moderate { λ r. ⌜ Moderate r ⌝ }
 {
     let levers = levers_aboard(t, limits, rows, cargo);
@@ -188,7 +188,7 @@ fn rear_holds(h: i64, ejhr: u32, weight: u64, em: u32, emmr: u32) -> bool
 // 27 middle axle, W2: what tractor, trailer and load bring to it, by their levers, is within its limit.
 fn middle_axle_holds(t: &[u32], limits: Limits, rows: &[u32], cargo: Cargo) -> bool
     requires { ⌜ CargoIn limits (now t) (now rows) cargo ⌝ }
-    ensures { λ r. ⌜ r ≡ onTruck middleAxleHolds limits (now (t .entry)) cargo ⌝ }
+    ensures { λ r. ⌜ r ≡ ofCargo middleAxleHolds limits (now (t .entry)) cargo ⌝ }
 {
     let h = moment(t, limits, rows, cargo);
     let truck = cargo.truck;
@@ -204,7 +204,7 @@ fn middle_axle_holds(t: &[u32], limits: Limits, rows: &[u32], cargo: Cargo) -> b
 // 28 rear axle, W2: what the harness does not bear of trailer and load is within its limit.
 fn rear_axle_holds(t: &[u32], limits: Limits, rows: &[u32], cargo: Cargo) -> bool
     requires { ⌜ CargoIn limits (now t) (now rows) cargo ⌝ }
-    ensures { λ r. ⌜ r ≡ onTruck rearAxleHolds limits (now (t .entry)) cargo ⌝ }
+    ensures { λ r. ⌜ r ≡ ofCargo rearAxleHolds limits (now (t .entry)) cargo ⌝ }
 {
     let h = moment(t, limits, rows, cargo);
     let weight = weight_aboard(t, limits, rows, cargo);
@@ -223,7 +223,7 @@ pub enum Axle {
 // Whether an axle holds.
 fn axle_holds(axle: Axle, t: &[u32], limits: Limits, rows: &[u32], cargo: Cargo) -> bool
     requires { ⌜ CargoIn limits (now t) (now rows) cargo ⌝ }
-    ensures { λ r. ⌜ r ≡ onTruck (axleTest axle) limits (now (t .entry)) cargo ⌝ }
+    ensures { λ r. ⌜ r ≡ ofCargo (axleTest axle) limits (now (t .entry)) cargo ⌝ }
 {
     match axle {
         Axle::Middle => middle_axle_holds(t, limits, rows, cargo),

@@ -4,13 +4,13 @@ use Prim.Native.Nat.{_-_, _≤_}
 use native.Mathlib.Omega.{arith}
 use borrow.Author.Needs.{needs}
 use Rattle.meaning.specs.Rules.{counts}
-use Rattle.axles.specs.Aboard.{stacksOn}
+use Rattle.axles.specs.Aboard.{cargoStacks}
 use Rattle.axles.proofs.Aboard.{onFrom, counts-none, counts-here, counts-later}
 use Rattle.axles.proofs.departure_counts.Statement.{statement}
 use Rattle.axles.proofs.departure_counts.Tie as tie
 
 abbrev Inv-loop : tie.InvT-loop
-Inv-loop t limits rows cargo end k₀ k = (k ≤ cargo .end) × (counts (onFrom limits t cargo k) ≡ counts (stacksOn limits t cargo))
+Inv-loop t limits rows cargo end k₀ k = (k ≤ cargo .end) × (counts (onFrom limits t cargo k) ≡ counts (cargoStacks limits t cargo))
 
 abbrev μ-loop : tie.MeasureT-loop
 μ-loop t limits rows cargo end k₀ k = cargo .end - k
