@@ -8,22 +8,23 @@ use native.Mathlib.Omega.{arith}
 use lib.IntN.{ℤ, pos, natAbs, _+ℤ_, _-ℤ_, _*ℤ_, +ℤ-idl}
 use lib.ListN.{length, getD, take, drop, take-append-drop}
 use Rattle.meaning.specs.declared.Limits.{Limits}
-use Rattle.meaning.specs.Lists.{Every, filter, between, sum, sumℤ}
-use Rattle.meaning.specs.Model.{Instance, Truck, Stack, truckNumbered, x, EM, EJcr}
-use Rattle.meaning.specs.Measures.{sm, xe, supplierOrder, weightOn, lever, H}
+use Rattle.meaning.specs.Lists.{Every, filter, sum, sumℤ}
+use Rattle.meaning.specs.Model.{Instance, Truck, Stack, x, EM, EJcr}
+use Rattle.meaning.specs.Measures.{sm, xe, weightOn, lever, H}
 use Rattle.meaning.specs.Table.{instanceIn, stacksIn}
 use Rattle.meaning.proofs.Lists.{in-filter, every-reads, every-append}
 use Rattle.meaning.proofs.Permute.{every-perm}
 use Rattle.meaning.proofs.Ring.{less, same-less, ring}
-use Rattle.table.specs.Filled.{Filled, TruckNumber, noStack}
+use Rattle.table.specs.Filled.{noStack}
 use Rattle.table.proofs.Bounds.{truck-most}
 use Rattle.table.proofs.Access.{truck-in}
 use Rattle.visits.specs.Visits.{visitAt, visited, block}
 use Rattle.visits.proofs.Order.{visited-perm}
 use Rattle.visits.proofs.RowMost.{row-most}
-use Rattle.axles.specs.Aboard.{aboard, twiceA, leverBy, momentOf}
-use Rattle.axles.proofs.Aboard.{block-none, aboard-more}
-use Rattle.axles.proofs.Weights.{aboard-weight}
+use Rattle.axles.specs.declared.Cargo.{Cargo}
+use Rattle.axles.specs.Aboard.{aboard, CargoIn, cargoTruck, isAboard, leverAt, twiceA, leverBy, leversOf, momentOf}
+use Rattle.axles.proofs.Aboard.{onFrom, on-none, on-more}
+use Rattle.axles.proofs.Weights.{on-weight}
 use Rattle.axles.proofs.Signed.{less-size, plus-size, times-size}
 
 -- ---- one stack
@@ -47,11 +48,11 @@ unfolding leverBy lever
 lever-by-is i t s ew eb ee ea = rw (ew, eb, ee, ea)
 
 -- ---- stacks together
-levers-size : (i : Instance) (t : Truck) (on : List Stack) → twiceA t ≤ 80000 → Every (Near i) on
-    → natAbs (sumℤ (lever i t) on) ≤ weightOn i on * 80000
+sum-size : (i : Instance) (t : Truck) (on : List Stack) → twiceA t ≤ 80000 → Every (Near i) on
+    → natAbs (leversOf i t on) ≤ weightOn i on * 80000
 unfolding sumℤ weightOn sum
-levers-size i t [] a h = omega arith
-levers-size i t (s ∷ on) a h = omega (arith, plus-size (lever i t s) (sumℤ (lever i t) on) (lever-size i t s a (h .0)) (levers-size i t on a (h .1)))
+sum-size i t [] a h = omega arith
+sum-size i t (s ∷ on) a h = omega (arith, plus-size (lever i t s) (leversOf i t on) (lever-size i t s a (h .0)) (sum-size i t on a (h .1)))
 
 -- what holds at every place of a list, and so of the elements of its parts
 module _ {A : Type 0} (P : A → Type 0) where
@@ -68,44 +69,50 @@ module _ {A : Type 0} (P : A → Type 0) where
   every-filter : (test : A → Bool) (l : List A) → Every P l → Every P (filter test l)
   every-filter test l h = every-reads P (filter test l) .1 (λ a m. every-reads P l .0 h a (in-filter test l a .0 m .0))
 
--- the levers of some stacks of a block: at most 65536 entries of the loads, each of weight 50000 and with a distance of 80000
-pub aboard-size : {m : Limits} {t : List ℕ} → Filled m t → (n : ℕ) → TruckNumber (instanceIn m t) n → (start end departure : ℕ)
-    → natAbs (sumℤ (lever (instanceIn m t) (truckNumbered (instanceIn m t) n)) (aboard (instanceIn m t) (block (stacksIn m t) start end) 1 departure))
-    ≤ 262144000000000
-unfolding aboard
-aboard-size {m} {t} h n known start end departure =
-    let i = instanceIn m t in
-    let p = stacksIn m t in
-    let on = aboard i (block p start end) 1 departure in
-    let field = truck-most (truckNumbered i n .fields) (truck-in h n known .fields) in
-    let a : twiceA (truckNumbered i n) ≤ 80000 = omega (arith, field 17 (omega arith), field 15 (omega arith)) in
-    let plan : Every (Near i) p = every-place (Near i) noStack p (λ s l. omega (arith, row-most h s l 4, row-most h s l 5)) in
-    let visits = every-perm (Near i) (visited-perm p) plan in
-    let part = every-take (Near i) (end - start) (drop start (visited p)) (every-drop (Near i) start (visited p) visits) in
-    let near : Every (Near i) on = every-filter (Near i) _ (block p start end) part in
-    omega (arith, levers-size i (truckNumbered i n) on a near, aboard-weight h start end 1 departure)
+-- the levers of those that are on, of the stacks visited from place k on
+abbrev pub leversFrom : Limits → List ℕ → Cargo → ℕ → ℤ
+leversFrom m t c k = leversOf (instanceIn m t) (cargoTruck m t c) (onFrom m t c k)
 
--- ---- one visited stack more
-module _ (i : Instance) (t : Truck) (p : List Stack) where
-  pub levers-none : (end departure : ℕ) → pos 0 ≡ sumℤ (lever i t) (aboard i (block p end end) 1 departure)
-  unfolding sumℤ
-  levers-none end departure = rw (block-none i p end 1 departure) refl
+module _ {m : Limits} {t rows : List ℕ} {c : Cargo} (h : CargoIn m t rows c) where
+  -- the instance, the plan and the cargo's truck
+  abbrev i : Instance
+  i = instanceIn m t
 
-  pub levers-more : {k next end : ℕ} → next ≡ k + 1 → k < end → end ≤ length p → (departure : ℕ)
-      → cond (between 1 departure (supplierOrder i (visitAt p k))) (lever i t (visitAt p k)) (pos 0)
-      +ℤ sumℤ (lever i t) (aboard i (block p next end) 1 departure)
-      ≡ sumℤ (lever i t) (aboard i (block p k end) 1 departure)
+  abbrev p : List Stack
+  p = stacksIn m t
+
+  abbrev truck : Truck
+  truck = cargoTruck m t c
+
+  -- the levers of some stacks of a block: at most 65536 entries of the loads, each of weight 50000 and with a distance of 80000
+  pub levers-size : (k : ℕ) → natAbs (leversFrom m t c k) ≤ 262144000000000
+  unfolding aboard
+  levers-size k =
+      let filled = h .held .filled in
+      let field = truck-most (truck .fields) (truck-in filled (c .truck) (h .known) .fields) in
+      let a : twiceA truck ≤ 80000 = omega (arith, field 17 (omega arith), field 15 (omega arith)) in
+      let plan : Every (Near i) p = every-place (Near i) noStack p (λ s l. omega (arith, row-most filled s l 4, row-most filled s l 5)) in
+      let visits = every-perm (Near i) (visited-perm p) plan in
+      let part = every-take (Near i) (c .end - k) (drop k (visited p)) (every-drop (Near i) k (visited p) visits) in
+      let near : Every (Near i) (onFrom m t c k) = every-filter (Near i) _ (block p k (c .end)) part in
+      omega (arith, sum-size i truck (onFrom m t c k) a near, on-weight filled c k)
+
+  -- ---- one visited stack more
+  pub levers-none : pos 0 ≡ leversFrom m t c (c .end)
   unfolding sumℤ
-  levers-more {k} {next} {end} step some within departure =
-      rw (aboard-more i p step some within 1 departure)
-      (more (between 1 departure (supplierOrder i (visitAt p k))) (visitAt p k) (aboard i (block p next end) 1 departure))
+  levers-none = rw (on-none h) refl
+
+  pub levers-more : {k next : ℕ} → next ≡ k + 1 → k < c .end
+      → cond (isAboard m t c k) (leverAt m t c k) (pos 0) +ℤ leversFrom m t c next ≡ leversFrom m t c k
+  unfolding sumℤ
+  levers-more {k} {next} step some = rw (on-more h step some) (more (isAboard m t c k) (visitAt p k) (onFrom m t c next))
     where
-      more : (b : Bool) (s : Stack) (on : List Stack) → cond b (lever i t s) (pos 0) +ℤ sumℤ (lever i t) on ≡ sumℤ (lever i t) (cond b (s ∷ on) on)
+      more : (b : Bool) (s : Stack) (on : List Stack) → cond b (lever i truck s) (pos 0) +ℤ leversOf i truck on ≡ leversOf i truck (cond b (s ∷ on) on)
       more true s on = refl
-      more false s on = +ℤ-idl (sumℤ (lever i t) on)
+      more false s on = +ℤ-idl (leversOf i truck on)
 
 -- H, by plain numbers
-pub moment-is : (i : Instance) (t : Truck) (on : List Stack) {levers : ℤ} {em ejcr : ℕ} → levers ≡ sumℤ (lever i t) on → em ≡ EM t → ejcr ≡ EJcr t
+pub moment-is : (i : Instance) (t : Truck) (on : List Stack) {levers : ℤ} {em ejcr : ℕ} → levers ≡ leversOf i t on → em ≡ EM t → ejcr ≡ EJcr t
     → levers +ℤ pos 2 *ℤ pos em *ℤ pos ejcr ≡ momentOf i t on
 unfolding H
 moment-is i t on e f g = rw (e, f, g)

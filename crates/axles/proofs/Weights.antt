@@ -15,7 +15,9 @@ use Rattle.table.specs.Filled.{Filled}
 use Rattle.table.proofs.Access.{stacks-in, per-entry-most, stack-weight}
 use Rattle.visits.specs.Visits.{visited, block}
 use Rattle.visits.proofs.Order.{visited-perm}
+use Rattle.axles.specs.declared.Cargo.{Cargo}
 use Rattle.axles.specs.Aboard.{aboard}
+use Rattle.axles.proofs.Aboard.{onFrom}
 
 -- the stacks that are on
 some-weight : (i : Instance) (p : List Stack) (first last : ℕ) → weightOn i (aboard i p first last) ≤ sum (sm i) p
@@ -32,16 +34,15 @@ module _ {m : Limits} {t : List ℕ} (h : Filled m t) where
       omega (arith, less, per-entry-most h 50000)
 
   -- some stacks of a block weigh no more than all stacks
-  pub aboard-weight : (start end first last : ℕ)
-      → weightOn (instanceIn m t) (aboard (instanceIn m t) (block (stacksIn m t) start end) first last) ≤ 3276800000
-  aboard-weight start end first last =
+  pub on-weight : (c : Cargo) (k : ℕ) → weightOn (instanceIn m t) (onFrom m t c k) ≤ 3276800000
+  on-weight c k =
       let f = sm (instanceIn m t) in
       let p = stacksIn m t in
       omega (
         arith,
         plan-weight,
         sum-perm f (visited-perm p),
-        sum-drop f start (visited p),
-        sum-take f (end - start) (drop start (visited p)),
-        some-weight (instanceIn m t) (block p start end) first last,
+        sum-drop f k (visited p),
+        sum-take f (c .end - k) (drop k (visited p)),
+        some-weight (instanceIn m t) (block p k (c .end)) (c .first) (c .last),
       )

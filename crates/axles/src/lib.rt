@@ -1,20 +1,18 @@
-// The rules on a used truck: 26 overload, 27 middle axle, 28 rear axle. Each function looks at the stacks of one used truck, which are
-// visited together, from place `start` up to `end`. Levers are signed: a stack whose middle lies behind the rear axle counts negative.
-// Nothing is divided.
+// The rules on a used truck: 26 overload, 27 middle axle, 28 rear axle. The stacks of a used truck are visited together, from place `start`
+// up to `end`. Levers are signed: a stack whose middle lies behind the rear axle counts negative. Nothing is divided.
 ghost use mathlib.Core.Path.{_≡_};
 ghost use mathlib.Core.Bool.{cond};
 ghost use Prim.Native.Nat.{_≤_, _<_};
 ghost use lib.IntN.{pos};
-ghost use lib.ListN.{length};
-ghost use Rattle.meaning.specs.Lists.{between, sumℤ};
 ghost use Rattle.meaning.specs.Model.{truckNumbered};
-ghost use Rattle.meaning.specs.Measures.{sm, supplierOrder, weightOn, lever};
+ghost use Rattle.meaning.specs.Measures.{sm, weightOn};
 ghost use Rattle.meaning.specs.Rules.{truckPlaces, departurePlaces, counts, withinLoadLimit, middleAxleHolds, rearAxleHolds};
 ghost use Rattle.meaning.specs.Table.{instanceIn, stacksIn};
 ghost use Rattle.table.specs.Filled.{Filled, TruckNumber};
 ghost use Rattle.search.specs.Lowest.{lowestIn};
 ghost use Rattle.visits.specs.Visits.{visitAt, block, HoldsRows, OneTruck};
-ghost use Rattle.axles.specs.Aboard.{aboard, axleTest, twiceA, leverBy, momentOf, middleHolds, rearHolds, Moderate};
+ghost use Rattle.axles.specs.Aboard.{CargoIn, cargoTruck, isAboard, leverAt, cargoStacks, ofCargo};
+ghost use Rattle.axles.specs.Aboard.{axleTest, twiceA, leverBy, leversOf, momentOf, middleHolds, rearHolds, Moderate};
 use meaning::Limits;
 use search::Found;
 use search::lower_of;
@@ -41,32 +39,34 @@ const MOST_SUPPLIERS: u32 = 8;
 
 // ---- the stacks that are on
 
-// Whether the supplier of a visited stack has a loading order from `first` to `last`.
-fn is_aboard(t: &[u32], limits: Limits, rows: &[u32], k: usize, first: u32, last: u32) -> bool
-    requires { ⌜ HoldsRows limits (now t) (now rows) × (k < length (stacksIn limits (now t))) ⌝ }
-    ensures { λ r. ⌜ r ≡ between first last (supplierOrder (instanceIn limits (now (t .entry)))
-        (visitAt (stacksIn limits (now (t .entry))) k)) ⌝ }
+// What is on a used truck: of the stacks visited from place `start` up to `end`, those whose supplier has a loading order from `first` to
+// `last`. At a departure that is from 1 to its number.
+struct Cargo {
+    truck: u32,
+    start: usize,
+    end: usize,
+    first: u32,
+    last: u32,
+}
+
+// Whether a visited stack is on.
+fn is_aboard(t: &[u32], limits: Limits, rows: &[u32], cargo: Cargo, k: usize) -> bool
+    requires { ⌜ CargoIn limits (now t) (now rows) cargo × (k < cargo .end) ⌝ }
+    ensures { λ r. ⌜ r ≡ isAboard limits (now (t .entry)) cargo k ⌝ }
 {
     let order = row_word(t, limits, rows, k, row::SUPPLIER_ORDER);
-    (first <= order) & (order <= last)
+    (cargo.first <= order) & (order <= cargo.last)
 }
 
 // Whether a departure counts, which it does where a stack is on.
-fn departure_counts(
-    t: &[u32],
-    limits: Limits,
-    rows: &[u32],
-    start: usize,
-    end: usize,
-    departure: u32,
-) -> bool
-    requires { ⌜ HoldsRows limits (now t) (now rows) × (start ≤ end) × (end ≤ length (stacksIn limits (now t))) ⌝ }
-    ensures { λ r. ⌜ r ≡ counts (aboard (instanceIn limits (now (t .entry))) (block (stacksIn limits (now (t .entry))) start end) 1
-        departure) ⌝ }
+fn departure_counts(t: &[u32], limits: Limits, rows: &[u32], cargo: Cargo) -> bool
+    requires { ⌜ CargoIn limits (now t) (now rows) cargo ⌝ }
+    ensures { λ r. ⌜ r ≡ counts (cargoStacks limits (now (t .entry)) cargo) ⌝ }
 {
-    let mut k = start;
+    let end = cargo.end;
+    let mut k = cargo.start;
     while k < end {
-        if is_aboard(t, limits, rows, k, 1, departure) {
+        if is_aboard(t, limits, rows, cargo, k) {
             return true;
         }
         k += 1;
@@ -74,39 +74,30 @@ fn departure_counts(
     false
 }
 
-// What a visited stack adds to the weight of those from supplier `first` to `last`.
-fn weight_part(t: &[u32], limits: Limits, rows: &[u32], k: usize, first: u32, last: u32) -> u64
-    requires { ⌜ HoldsRows limits (now t) (now rows) × (k < length (stacksIn limits (now t))) ⌝ }
-    ensures { λ r. ⌜ (r ≡ cond (between first last
-        (supplierOrder (instanceIn limits (now (t .entry))) (visitAt (stacksIn limits (now (t .entry))) k)))
+// What a visited stack adds to the weight that is on.
+fn weight_part(t: &[u32], limits: Limits, rows: &[u32], cargo: Cargo, k: usize) -> u64
+    requires { ⌜ CargoIn limits (now t) (now rows) cargo × (k < cargo .end) ⌝ }
+    ensures { λ r. ⌜ (r ≡ cond (isAboard limits (now (t .entry)) cargo k)
         (sm (instanceIn limits (now (t .entry))) (visitAt (stacksIn limits (now (t .entry))) k)) 0) × (r ≤ 3200000) ⌝ }
 {
     let weight = row_word(t, limits, rows, k, row::WEIGHT);
-    if is_aboard(t, limits, rows, k, first, last) {
+    if is_aboard(t, limits, rows, cargo, k) {
         return weight as u64;
     }
     0
 }
 
-// The weight of the stacks from supplier `first` to `last`.
-fn weight_aboard(
-    t: &[u32],
-    limits: Limits,
-    rows: &[u32],
-    start: usize,
-    end: usize,
-    first: u32,
-    last: u32,
-) -> u64
-    requires { ⌜ HoldsRows limits (now t) (now rows) × (start ≤ end) × (end ≤ length (stacksIn limits (now t))) ⌝ }
-    ensures { λ r. ⌜ (r ≡ weightOn (instanceIn limits (now (t .entry)))
-        (aboard (instanceIn limits (now (t .entry))) (block (stacksIn limits (now (t .entry))) start end) first last)) × (r ≤ 3276800000) ⌝ }
+// The weight of the stacks that are on.
+fn weight_aboard(t: &[u32], limits: Limits, rows: &[u32], cargo: Cargo) -> u64
+    requires { ⌜ CargoIn limits (now t) (now rows) cargo ⌝ }
+    ensures { λ r. ⌜ (r ≡ weightOn (instanceIn limits (now (t .entry))) (cargoStacks limits (now (t .entry)) cargo)) × (r ≤ 3276800000) ⌝ }
 {
+    let start = cargo.start;
     let mut sum: u64 = 0;
-    let mut k = end;
+    let mut k = cargo.end;
     while start < k {
         k -= 1;
-        sum = weight_part(t, limits, rows, k, first, last) + sum;
+        sum = weight_part(t, limits, rows, cargo, k) + sum;
     }
     sum
 }
@@ -129,76 +120,46 @@ fn twice_a(t: &[u32], limits: Limits, truck: u32) -> u32
     2 * (truck_field(t, limits, truck, EJEH) + truck_field(t, limits, truck, EJHR))
 }
 
-// What a visited stack adds to the levers at a departure: nothing where it is not on.
-fn lever_part(
-    t: &[u32],
-    limits: Limits,
-    rows: &[u32],
-    k: usize,
-    departure: u32,
-    truck: u32,
-    twice: u32,
-) -> i64
-    requires { ⌜ HoldsRows limits (now t) (now rows) × (k < length (stacksIn limits (now t)))
-        × (twice ≡ twiceA (truckNumbered (instanceIn limits (now t)) truck)) × (twice ≤ 80000) ⌝ }
-    ensures { λ r. ⌜ r ≡ cond (between 1 departure
-        (supplierOrder (instanceIn limits (now (t .entry))) (visitAt (stacksIn limits (now (t .entry))) k)))
-        (lever (instanceIn limits (now (t .entry))) (truckNumbered (instanceIn limits (now (t .entry))) truck)
-        (visitAt (stacksIn limits (now (t .entry))) k)) (pos 0) ⌝ }
+// What a visited stack adds to the levers: nothing where it is not on.
+fn lever_part(t: &[u32], limits: Limits, rows: &[u32], cargo: Cargo, k: usize, twice: u32) -> i64
+    requires { ⌜ CargoIn limits (now t) (now rows) cargo × (k < cargo .end)
+        × (twice ≡ twiceA (cargoTruck limits (now t) cargo)) × (twice ≤ 80000) ⌝ }
+    ensures { λ r. ⌜ r ≡ cond (isAboard limits (now (t .entry)) cargo k) (leverAt limits (now (t .entry)) cargo k) (pos 0) ⌝ }
 {
     let weight = row_word(t, limits, rows, k, row::WEIGHT);
     let x = row_word(t, limits, rows, k, row::X);
     let lever = lever_by(weight, x, row_word(t, limits, rows, k, row::XE), twice);
-    if is_aboard(t, limits, rows, k, 1, departure) {
+    if is_aboard(t, limits, rows, cargo, k) {
         return lever;
     }
     0
 }
 
-// The levers of the stacks that are on at a departure.
-fn levers_aboard(
-    t: &[u32],
-    limits: Limits,
-    rows: &[u32],
-    start: usize,
-    end: usize,
-    departure: u32,
-    truck: u32,
-) -> i64
-    requires { ⌜ HoldsRows limits (now t) (now rows) × (start ≤ end) × (end ≤ length (stacksIn limits (now t)))
-        × TruckNumber (instanceIn limits (now t)) truck ⌝ }
-    ensures { λ r. ⌜ r ≡ sumℤ (lever (instanceIn limits (now (t .entry))) (truckNumbered (instanceIn limits (now (t .entry))) truck))
-        (aboard (instanceIn limits (now (t .entry))) (block (stacksIn limits (now (t .entry))) start end) 1 departure) ⌝ }
+// The levers of the stacks that are on.
+fn levers_aboard(t: &[u32], limits: Limits, rows: &[u32], cargo: Cargo) -> i64
+    requires { ⌜ CargoIn limits (now t) (now rows) cargo ⌝ }
+    ensures { λ r. ⌜ r ≡ ofCargo leversOf limits (now (t .entry)) cargo ⌝ }
 {
-    let twice = twice_a(t, limits, truck);
+    let start = cargo.start;
+    let twice = twice_a(t, limits, cargo.truck);
     let mut sum: i64 = 0;
-    let mut k = end;
+    let mut k = cargo.end;
     while start < k {
         k -= 1;
-        sum = lever_part(t, limits, rows, k, departure, truck, twice) + sum;
+        sum = lever_part(t, limits, rows, cargo, k, twice) + sum;
     }
     sum
 }
 
 // H: the levers of the stacks that are on, and of the trailer.
-fn moment(
-    t: &[u32],
-    limits: Limits,
-    rows: &[u32],
-    start: usize,
-    end: usize,
-    departure: u32,
-    truck: u32,
-) -> i64
-    requires { ⌜ HoldsRows limits (now t) (now rows) × (start ≤ end) × (end ≤ length (stacksIn limits (now t)))
-        × TruckNumber (instanceIn limits (now t)) truck ⌝ }
-    ensures is { λ r. ⌜ r ≡ momentOf (instanceIn limits (now (t .entry))) (truckNumbered (instanceIn limits (now (t .entry))) truck)
-        (aboard (instanceIn limits (now (t .entry))) (block (stacksIn limits (now (t .entry))) start end) 1 departure) ⌝ }
+fn moment(t: &[u32], limits: Limits, rows: &[u32], cargo: Cargo) -> i64
+    requires { ⌜ CargoIn limits (now t) (now rows) cargo ⌝ }
+    ensures is { λ r. ⌜ r ≡ ofCargo momentOf limits (now (t .entry)) cargo ⌝ }
     ensures moderate { λ r. ⌜ Moderate r ⌝ }
 {
-    let levers = levers_aboard(t, limits, rows, start, end, departure, truck);
-    let em = truck_field(t, limits, truck, EM);
-    let ejcr = truck_field(t, limits, truck, EJCR);
+    let levers = levers_aboard(t, limits, rows, cargo);
+    let em = truck_field(t, limits, cargo.truck, EM);
+    let ejcr = truck_field(t, limits, cargo.truck, EJCR);
     levers + 2 * (em as i64) * (ejcr as i64)
 }
 
@@ -225,57 +186,33 @@ fn rear_holds(h: i64, ejhr: u32, weight: u64, em: u32, emmr: u32) -> bool
 }
 
 // 27 middle axle, W2: what tractor, trailer and load bring to it, by their levers, is within its limit.
-fn middle_axle_holds(
-    t: &[u32],
-    limits: Limits,
-    rows: &[u32],
-    start: usize,
-    end: usize,
-    departure: u32,
-    truck: u32,
-) -> bool
-    requires { ⌜ HoldsRows limits (now t) (now rows) × (start ≤ end) × (end ≤ length (stacksIn limits (now t)))
-        × TruckNumber (instanceIn limits (now t)) truck ⌝ }
-    ensures { λ r. ⌜ r ≡ middleAxleHolds (instanceIn limits (now (t .entry))) (truckNumbered (instanceIn limits (now (t .entry))) truck)
-        (aboard (instanceIn limits (now (t .entry))) (block (stacksIn limits (now (t .entry))) start end) 1 departure) ⌝ }
+fn middle_axle_holds(t: &[u32], limits: Limits, rows: &[u32], cargo: Cargo) -> bool
+    requires { ⌜ CargoIn limits (now t) (now rows) cargo ⌝ }
+    ensures { λ r. ⌜ r ≡ ofCargo middleAxleHolds limits (now (t .entry)) cargo ⌝ }
 {
-    let h = moment(t, limits, rows, start, end, departure, truck);
+    let h = moment(t, limits, rows, cargo);
+    let truck = cargo.truck;
     let ejhr = truck_field(t, limits, truck, EJHR);
     let cm = truck_field(t, limits, truck, CM);
     let cjfc = truck_field(t, limits, truck, CJFC);
     let cjfh = truck_field(t, limits, truck, CJFH);
     let cjfm = truck_field(t, limits, truck, CJFM);
-    middle_holds(
-        h,
-        ejhr,
-        cm,
-        cjfc,
-        cjfh,
-        cjfm,
-        truck_field(t, limits, truck, EMMM),
-    )
+    let emmm = truck_field(t, limits, truck, EMMM);
+    middle_holds(h, ejhr, cm, cjfc, cjfh, cjfm, emmm)
 }
 
 // 28 rear axle, W2: what the harness does not bear of trailer and load is within its limit.
-fn rear_axle_holds(
-    t: &[u32],
-    limits: Limits,
-    rows: &[u32],
-    start: usize,
-    end: usize,
-    departure: u32,
-    truck: u32,
-) -> bool
-    requires { ⌜ HoldsRows limits (now t) (now rows) × (start ≤ end) × (end ≤ length (stacksIn limits (now t)))
-        × TruckNumber (instanceIn limits (now t)) truck ⌝ }
-    ensures { λ r. ⌜ r ≡ rearAxleHolds (instanceIn limits (now (t .entry))) (truckNumbered (instanceIn limits (now (t .entry))) truck)
-        (aboard (instanceIn limits (now (t .entry))) (block (stacksIn limits (now (t .entry))) start end) 1 departure) ⌝ }
+fn rear_axle_holds(t: &[u32], limits: Limits, rows: &[u32], cargo: Cargo) -> bool
+    requires { ⌜ CargoIn limits (now t) (now rows) cargo ⌝ }
+    ensures { λ r. ⌜ r ≡ ofCargo rearAxleHolds limits (now (t .entry)) cargo ⌝ }
 {
-    let h = moment(t, limits, rows, start, end, departure, truck);
-    let weight = weight_aboard(t, limits, rows, start, end, 1, departure);
+    let h = moment(t, limits, rows, cargo);
+    let weight = weight_aboard(t, limits, rows, cargo);
+    let truck = cargo.truck;
     let ejhr = truck_field(t, limits, truck, EJHR);
     let em = truck_field(t, limits, truck, EM);
-    rear_holds(h, ejhr, weight, em, truck_field(t, limits, truck, EMMR))
+    let emmr = truck_field(t, limits, truck, EMMR);
+    rear_holds(h, ejhr, weight, em, emmr)
 }
 
 pub enum Axle {
@@ -283,25 +220,14 @@ pub enum Axle {
     Rear, // 28
 }
 
-// Whether an axle holds at a departure.
-fn axle_holds(
-    axle: Axle,
-    t: &[u32],
-    limits: Limits,
-    rows: &[u32],
-    start: usize,
-    end: usize,
-    departure: u32,
-    truck: u32,
-) -> bool
-    requires { ⌜ HoldsRows limits (now t) (now rows) × (start ≤ end) × (end ≤ length (stacksIn limits (now t)))
-        × TruckNumber (instanceIn limits (now t)) truck ⌝ }
-    ensures { λ r. ⌜ r ≡ axleTest axle (instanceIn limits (now (t .entry))) (truckNumbered (instanceIn limits (now (t .entry))) truck)
-        (aboard (instanceIn limits (now (t .entry))) (block (stacksIn limits (now (t .entry))) start end) 1 departure) ⌝ }
+// Whether an axle holds.
+fn axle_holds(axle: Axle, t: &[u32], limits: Limits, rows: &[u32], cargo: Cargo) -> bool
+    requires { ⌜ CargoIn limits (now t) (now rows) cargo ⌝ }
+    ensures { λ r. ⌜ r ≡ ofCargo (axleTest axle) limits (now (t .entry)) cargo ⌝ }
 {
     match axle {
-        Axle::Middle => middle_axle_holds(t, limits, rows, start, end, departure, truck),
-        Axle::Rear => rear_axle_holds(t, limits, rows, start, end, departure, truck),
+        Axle::Middle => middle_axle_holds(t, limits, rows, cargo),
+        Axle::Rear => rear_axle_holds(t, limits, rows, cargo),
     }
 }
 
@@ -326,8 +252,15 @@ pub fn lowest_departure(
     let mut found = Found::Nothing;
     let mut departure = list.len() as u32;
     while 0 < departure {
-        let counts = departure_counts(t, limits, rows, start, end, departure);
-        let holds = axle_holds(axle, t, limits, rows, start, end, departure, truck);
+        let cargo = Cargo {
+            truck,
+            start,
+            end,
+            first: 1,
+            last: departure,
+        };
+        let counts = departure_counts(t, limits, rows, cargo);
+        let holds = axle_holds(axle, t, limits, rows, cargo);
         found = lower_of(place_if(counts & !holds, truck, copy, departure), found);
         departure -= 1;
     }
@@ -341,12 +274,15 @@ pub fn overload_place(t: &[u32], limits: Limits, rows: &[u32], start: usize, end
         (block (stacksIn limits (now (t .entry))) start end)) ⌝ }
 {
     let truck = truck_at(t, limits, rows, start);
-    let weight = weight_aboard(t, limits, rows, start, end, 0, MOST_SUPPLIERS);
-    let within = weight <= (truck_field(t, limits, truck, LOAD_LIMIT) as u64);
-    place_if(
-        !within,
+    let cargo = Cargo {
         truck,
-        row_word(t, limits, rows, start, row::COPY),
-        0,
-    )
+        start,
+        end,
+        first: 0,
+        last: MOST_SUPPLIERS,
+    };
+    let weight = weight_aboard(t, limits, rows, cargo);
+    let within = weight <= (truck_field(t, limits, truck, LOAD_LIMIT) as u64);
+    let copy = row_word(t, limits, rows, start, row::COPY);
+    place_if(!within, truck, copy, 0)
 }

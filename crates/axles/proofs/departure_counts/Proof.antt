@@ -4,21 +4,16 @@ use Prim.Native.Nat.{_-_, _≤_}
 use native.Mathlib.Omega.{arith}
 use borrow.Author.Needs.{needs}
 use Rattle.meaning.specs.Rules.{counts}
-use Rattle.meaning.specs.Table.{instanceIn, stacksIn}
-use Rattle.visits.specs.Visits.{block}
-use Rattle.axles.specs.Aboard.{aboard}
-use Rattle.axles.proofs.Aboard.{counts-none, counts-here, counts-later}
+use Rattle.axles.specs.Aboard.{cargoStacks}
+use Rattle.axles.proofs.Aboard.{onFrom, counts-none, counts-here, counts-later}
 use Rattle.axles.proofs.departure_counts.Statement.{statement}
 use Rattle.axles.proofs.departure_counts.Tie as tie
 
 abbrev Inv-loop : tie.InvT-loop
-Inv-loop t limits rows start end departure k₀ k =
-    (k ≤ end)
-    × (counts (aboard (instanceIn limits t) (block (stacksIn limits t) k end) 1 departure)
-    ≡ counts (aboard (instanceIn limits t) (block (stacksIn limits t) start end) 1 departure))
+Inv-loop t limits rows cargo end k₀ k = (k ≤ cargo .end) × (counts (onFrom limits t cargo k) ≡ counts (cargoStacks limits t cargo))
 
 abbrev μ-loop : tie.MeasureT-loop
-μ-loop t limits rows start end departure k₀ k = end - k
+μ-loop t limits rows cargo end k₀ k = cargo .end - k
 
 loop-holds : tie.Need-loop-holds Inv-loop μ-loop
 loop-holds c = (omega arith, refl)
@@ -29,10 +24,7 @@ is-aboard-requires c κs = search needs
 returns : tie.Need-returns Inv-loop μ-loop
 returns c =
     let l = c .before .before .before in
-    let s = l .before .before .before in
-    let i = instanceIn (s .args .limits) (s .args .t .now) in
-    let p = stacksIn (s .args .limits) (s .args .t .now) in
-    counts-here i p refl (omega arith) (omega arith) (s .args .departure) (c .before .is-aboard .ensures) (c .if1 .taken) ∙ l .loop .inv .1
+    counts-here (l .before .before .before .pre) refl (omega arith) (c .before .is-aboard .ensures) (c .if1 .taken) ∙ l .loop .inv .1
 
 add-k : tie.Need-add-k Inv-loop μ-loop
 add-k c = search needs
@@ -43,18 +35,15 @@ loop-less c = search needs
 loop-again : tie.Need-loop-again Inv-loop μ-loop
 loop-again c =
     let l = c .before .before .before in
-    let s = l .before .before .before in
-    let i = instanceIn (s .args .limits) (s .args .t .now) in
-    let p = stacksIn (s .args .limits) (s .args .t .now) in
-    (omega arith, counts-later i p refl (omega arith) (omega arith) (s .args .departure) (c .before .is-aboard .ensures) (c .if1 .left) ∙ l .loop .inv .1)
+    let later = counts-later (l .before .before .before .pre) refl (omega arith) (c .before .is-aboard .ensures) (c .if1 .left) in
+    (omega arith, later ∙ l .loop .inv .1)
 
 returns-2 : tie.Need-returns-2 Inv-loop μ-loop
 returns-2 c =
-    let s = c .before .before .before .before in
-    let e : c .before .loop .k ≡ s .args .end = omega arith in
-    let i = instanceIn (s .args .limits) (s .args .t .now) in
-    let p = stacksIn (s .args .limits) (s .args .t .now) in
-    counts-none i p (s .args .end) (s .args .departure) ∙ rw e at (c .before .loop .inv .1)
+    let l = c .before in
+    let s = l .before .before .before in
+    let e : l .loop .k ≡ s .args .cargo .end = omega arith in
+    counts-none (s .pre) ∙ rw e at (l .loop .inv .1)
 
 pub departure-counts-spec : {M : Type 1} → statement M
 departure-counts-spec =

@@ -9,7 +9,10 @@ row-word-requires : tie.Need-row-word-requires
 row-word-requires c κs = search needs
 
 returns : tie.Need-returns
-returns c = ap (between (c .before .before .before .args .first) (c .before .before .before .args .last)) (c .row-word .ensures .0)
+returns c =
+    let word = c .before .before in
+    let cargo = word .before .before .before .args .cargo in
+    ap (between (cargo .first) (cargo .last)) (word .row-word .ensures .0)
 
 pub is-aboard-spec : {M : Type 1} → statement M
 is-aboard-spec = tie.close (tie.spec row-word-requires returns)

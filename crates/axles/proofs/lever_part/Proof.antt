@@ -3,9 +3,6 @@ use mathlib.Core.Path.{refl, _∙_}
 use borrow.Author.Needs.{needs}
 use mir.Syntax.{w64}
 use mir.Val.{SFits}
-use Rattle.meaning.specs.Model.{truckNumbered}
-use Rattle.meaning.specs.Table.{instanceIn, stacksIn}
-use Rattle.visits.specs.Visits.{visitAt}
 use Rattle.axles.proofs.Signed.{stored}
 use Rattle.axles.proofs.Levers.{lever-by-is}
 use Rattle.axles.proofs.lever_part.Statement.{statement}
@@ -33,11 +30,9 @@ returns c =
     let second = third .before in
     let first = second .before in
     let start = first .before .before .before in
-    let i = instanceIn (start .args .limits) (start .args .t .now) in
-    let s = visitAt (stacksIn (start .args .limits) (start .args .t .now)) (start .args .k) in
     let fits : SFits w64 (l .lever-by .result) = search needs in
     rw (← c .before .is-aboard .ensures, c .if1 .taken)
-    (stored fits (l .lever-by .ensures ∙ lever-by-is i (truckNumbered i (start .args .truck)) s
+    (stored fits (l .lever-by .ensures ∙ lever-by-is _ _ _
     (first .row-word .ensures .0) (second .row-word2 .ensures .0) (third .row-word3 .ensures .0) (start .pre .2)))
 
 returns-2 : tie.Need-returns-2

@@ -3,10 +3,6 @@ use mathlib.Core.Path.{_∙_}
 use borrow.Author.Needs.{needs}
 use mir.Syntax.{w64}
 use mir.Val.{SFits}
-use Rattle.meaning.specs.Model.{truckNumbered}
-use Rattle.meaning.specs.Table.{instanceIn, stacksIn}
-use Rattle.visits.specs.Visits.{block}
-use Rattle.axles.specs.Aboard.{aboard}
 use Rattle.axles.proofs.Departures.{middle-is}
 use Rattle.axles.proofs.middle_axle_holds.Statement.{statement}
 use Rattle.axles.proofs.middle_axle_holds.Tie as tie
@@ -44,12 +40,9 @@ returns c =
     let cm = cjfc .before in
     let ejhr = cm .before in
     let h = ejhr .before in
-    let a = h .before .before .before .args in
-    let i = instanceIn (a .limits) (a .t .now) in
-    let on = aboard i (block (stacksIn (a .limits) (a .t .now)) (a .start) (a .end)) 1 (a .departure) in
     let fits : SFits w64 (h .moment .result) = search needs in
     c .middle-holds .ensures
-    ∙ middle-is i (truckNumbered i (a .truck)) on fits (h .moment .ensures .0) (ejhr .truck-field .ensures .0) (cm .truck-field2 .ensures .0)
+    ∙ middle-is _ _ _ fits (h .moment .ensures .0) (ejhr .truck-field .ensures .0) (cm .truck-field2 .ensures .0)
     (cjfc .truck-field3 .ensures .0) (cjfh .truck-field4 .ensures .0) (cjfm .truck-field5 .ensures .0) (emmm .truck-field6 .ensures .0)
 
 pub middle-axle-holds-spec : {M : Type 1} → statement M

@@ -4,12 +4,8 @@ use native.Mathlib.Omega.{arith}
 use borrow.Author.Needs.{needs}
 use mir.Syntax.{w64}
 use mir.Val.{SFits}
-use Rattle.meaning.specs.Model.{truckNumbered}
-use Rattle.meaning.specs.Table.{instanceIn, stacksIn}
-use Rattle.visits.specs.Visits.{block}
-use Rattle.axles.specs.Aboard.{aboard}
 use Rattle.axles.proofs.Signed.{Amount, size-moderate, unsigned, literal, given, plus, times}
-use Rattle.axles.proofs.Levers.{aboard-size, moment-is}
+use Rattle.axles.proofs.Levers.{levers-size, moment-is}
 use Rattle.axles.proofs.moment.Statement.{statement}
 use Rattle.axles.proofs.moment.Tie as tie
 
@@ -21,8 +17,7 @@ abbrev levers : tie.After-truck-field2 → Amount
 levers c =
     let l = c .before .before in
     let s = l .before .before .before in
-    let size = aboard-size (s .pre .0 .filled) (s .args .truck) (s .pre .3) (s .args .start) (s .args .end) (s .args .departure) in
-    given (levers-fit c) (rw (← l .levers-aboard .ensures) at size)
+    given (levers-fit c) (rw (← l .levers-aboard .ensures) at (levers-size (s .pre) (s .args .cargo .start)))
 
 abbrev twice : tie.After-truck-field2 → Amount
 twice c = times (literal 2 tt) (unsigned (c .before .truck-field .ensures .1) tt) tt
@@ -60,10 +55,7 @@ add-result c = all c .fits
 returns : tie.Need-returns
 returns c =
     let l = c .before .before in
-    let s = l .before .before .before in
-    let i = instanceIn (s .args .limits) (s .args .t .now) in
-    let on = aboard i (block (stacksIn (s .args .limits) (s .args .t .now)) (s .args .start) (s .args .end)) 1 (s .args .departure) in
-    let is = moment-is i (truckNumbered i (s .args .truck)) on (l .levers-aboard .ensures) (c .before .truck-field .ensures .0) (c .truck-field2 .ensures .0) in
+    let is = moment-is _ _ _ (l .levers-aboard .ensures) (c .before .truck-field .ensures .0) (c .truck-field2 .ensures .0) in
     (all c .same ∙ is, rw (all c .same) (size-moderate (all c .is) (omega (arith, all c .size))))
 
 pub moment-spec : {M : Type 1} → statement M

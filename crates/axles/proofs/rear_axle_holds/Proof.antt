@@ -3,10 +3,6 @@ use mathlib.Core.Path.{_∙_}
 use borrow.Author.Needs.{needs}
 use mir.Syntax.{w64}
 use mir.Val.{SFits}
-use Rattle.meaning.specs.Model.{truckNumbered}
-use Rattle.meaning.specs.Table.{instanceIn, stacksIn}
-use Rattle.visits.specs.Visits.{block}
-use Rattle.axles.specs.Aboard.{aboard}
 use Rattle.axles.proofs.Departures.{rear-is}
 use Rattle.axles.proofs.rear_axle_holds.Statement.{statement}
 use Rattle.axles.proofs.rear_axle_holds.Tie as tie
@@ -36,12 +32,9 @@ returns c =
     let ejhr = em .before in
     let weight = ejhr .before in
     let h = weight .before in
-    let a = h .before .before .before .args in
-    let i = instanceIn (a .limits) (a .t .now) in
-    let on = aboard i (block (stacksIn (a .limits) (a .t .now)) (a .start) (a .end)) 1 (a .departure) in
     let fits : SFits w64 (h .moment .result) = search needs in
     c .rear-holds .ensures
-    ∙ rear-is i (truckNumbered i (a .truck)) on fits (h .moment .ensures .0) (ejhr .truck-field .ensures .0) (weight .weight-aboard .ensures .0)
+    ∙ rear-is _ _ _ fits (h .moment .ensures .0) (ejhr .truck-field .ensures .0) (weight .weight-aboard .ensures .0)
     (em .truck-field2 .ensures .0) (emmr .truck-field3 .ensures .0)
 
 pub rear-axle-holds-spec : {M : Type 1} → statement M

@@ -4,26 +4,21 @@ use Prim.Native.Nat.{_≤_}
 use native.Mathlib.Omega.{arith}
 use borrow.Author.Needs.{needs}
 use Rattle.meaning.specs.Measures.{weightOn}
-use Rattle.meaning.specs.Table.{instanceIn, stacksIn}
-use Rattle.visits.specs.Visits.{block}
-use Rattle.axles.specs.Aboard.{aboard}
-use Rattle.axles.proofs.Aboard.{weigh-none, weigh-more}
-use Rattle.axles.proofs.Weights.{aboard-weight}
+use Rattle.meaning.specs.Table.{instanceIn}
+use Rattle.axles.proofs.Aboard.{onFrom, weigh-none, weigh-more}
+use Rattle.axles.proofs.Weights.{on-weight}
 use Rattle.axles.proofs.weight_aboard.Statement.{statement}
 use Rattle.axles.proofs.weight_aboard.Tie as tie
 
 abbrev Inv-loop : tie.InvT-loop
-Inv-loop t limits rows start end first last sum₀ k₀ sum k =
-    (start ≤ k) × (k ≤ end) × (sum ≡ weightOn (instanceIn limits t) (aboard (instanceIn limits t) (block (stacksIn limits t) k end) first last))
+Inv-loop t limits rows cargo start sum₀ k₀ sum k =
+    (cargo .start ≤ k) × (k ≤ cargo .end) × (sum ≡ weightOn (instanceIn limits t) (onFrom limits t cargo k))
 
 abbrev μ-loop : tie.MeasureT-loop
-μ-loop t limits rows start end first last sum₀ k₀ sum k = k
+μ-loop t limits rows cargo start sum₀ k₀ sum k = k
 
 loop-holds : tie.Need-loop-holds Inv-loop μ-loop
-loop-holds c =
-    let s = c .before .before in
-    let i = instanceIn (s .args .limits) (s .args .t .now) in
-    (omega arith, omega arith, weigh-none i (stacksIn (s .args .limits) (s .args .t .now)) (s .args .end) (s .args .first) (s .args .last))
+loop-holds c = (omega arith, omega arith, weigh-none (c .before .before .pre))
 
 sub-k : tie.Need-sub-k Inv-loop μ-loop
 sub-k c = search needs
@@ -35,7 +30,7 @@ add-sum : tie.Need-add-sum Inv-loop μ-loop
 add-sum c =
     let l = c .before .before in
     let s = l .before .before .before in
-    omega (arith, aboard-weight (s .pre .0 .filled) (l .loop .k) (s .args .end) (s .args .first) (s .args .last))
+    omega (arith, on-weight (s .pre .held .filled) (s .args .cargo) (l .loop .k))
 
 loop-less : tie.Need-loop-less Inv-loop μ-loop
 loop-less c = search needs
@@ -44,19 +39,14 @@ loop-again : tie.Need-loop-again Inv-loop μ-loop
 loop-again c =
     let l = c .before .before in
     let s = l .before .before .before in
-    let i = instanceIn (s .args .limits) (s .args .t .now) in
-    let p = stacksIn (s .args .limits) (s .args .t .now) in (
-      omega arith,
-      omega arith,
-      weigh-more i p (omega arith) (omega arith) (omega arith) (s .args .first) (s .args .last) (c .weight-part .ensures .0) (l .loop .inv .2) refl,
-    )
+    (omega arith, omega arith, weigh-more (s .pre) (omega arith) (omega arith) (c .weight-part .ensures .0) (l .loop .inv .2) refl)
 
 returns : tie.Need-returns Inv-loop μ-loop
 returns c =
     let l = c .before in
     let s = l .before .before .before in
-    let e : l .loop .k ≡ s .args .start = omega arith in
-    (rw e at (l .loop .inv .2), omega (arith, l .loop .inv .2, aboard-weight (s .pre .0 .filled) (l .loop .k) (s .args .end) (s .args .first) (s .args .last)))
+    let e : l .loop .k ≡ s .args .cargo .start = omega arith in
+    (rw e at (l .loop .inv .2), omega (arith, l .loop .inv .2, on-weight (s .pre .held .filled) (s .args .cargo) (l .loop .k)))
 
 pub weight-aboard-spec : {M : Type 1} → statement M
 weight-aboard-spec =

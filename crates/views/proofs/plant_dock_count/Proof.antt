@@ -17,9 +17,7 @@ load-count-requires : tie.Need-load-count-requires Inv-loop μ-loop
 load-count-requires c κs = search needs
 
 loop-holds : tie.Need-loop-holds Inv-loop μ-loop
-loop-holds c =
-    let a = c .before .before .args in
-    counted-start (instanceIn (a .limits) (a .t .now)) (stackAt (stacksIn (a .limits) (a .t .now)) (a .s)) (c .load-count .ensures .0)
+loop-holds c = counted-start _ _ (c .load-count .ensures .0)
 
 sub-j : tie.Need-sub-j Inv-loop μ-loop
 sub-j c = search needs
@@ -45,10 +43,7 @@ loop-again c =
     let dock = has .before in
     let entry = dock .before in
     let l = entry .before .before in
-    let a = l .before .before .before .args in
-    let i = instanceIn (a .limits) (a .t .now) in
-    let stack = stackAt (stacksIn (a .limits) (a .t .now)) (a .s) in
-    counted-new i stack (l .loop .inv) (omega arith) (entry .load-entry .ensures .0) (dock .item-field .ensures .0) (has .has-plant-dock .ensures)
+    counted-new _ _ (l .loop .inv) (omega arith) (entry .load-entry .ensures .0) (dock .item-field .ensures .0) (has .has-plant-dock .ensures)
     (c .if1 .taken)
 
 loop-less-2 : tie.Need-loop-less-2 Inv-loop μ-loop
@@ -60,18 +55,11 @@ loop-again-2 c =
     let dock = has .before in
     let entry = dock .before in
     let l = entry .before .before in
-    let a = l .before .before .before .args in
-    let i = instanceIn (a .limits) (a .t .now) in
-    let stack = stackAt (stacksIn (a .limits) (a .t .now)) (a .s) in
-    counted-again i stack (l .loop .inv) (omega arith) (entry .load-entry .ensures .0) (dock .item-field .ensures .0) (has .has-plant-dock .ensures)
+    counted-again _ _ (l .loop .inv) (omega arith) (entry .load-entry .ensures .0) (dock .item-field .ensures .0) (has .has-plant-dock .ensures)
     (c .if1 .left)
 
 returns : tie.Need-returns Inv-loop μ-loop
-returns c =
-    let a = c .before .before .before .before .args in
-    let i = instanceIn (a .limits) (a .t .now) in
-    let stack = stackAt (stacksIn (a .limits) (a .t .now)) (a .s) in
-    counted-end i stack (c .before .loop .inv) (omega arith) (omega arith)
+returns c = counted-end _ _ (c .before .loop .inv) (omega arith) (omega arith)
 
 pub plant-dock-count-spec : {M : Type 1} → statement M
 plant-dock-count-spec =
