@@ -43,11 +43,7 @@ fn part_found(found: LineFound, plan: bool, fallback: usize) -> BadLine
     ensures { λ r. ⌜ partOf r ≡ partFound found plan fallback ⌝ }
 {
     match found {
-        LineFound::At(start, end) => BadLine {
-            plan: plan,
-            start: start,
-            end: end,
-        },
+        LineFound::At(start, end) => BadLine { plan, start, end },
         LineFound::Absent => BadLine {
             plan: false,
             start: fallback,

@@ -129,7 +129,7 @@ fn read_head(limits: Limits, file: &[u8], p: Progress, part: &mut [u32]) -> Head
     part[TRUCK_COUNT] = trucks.value;
     let progress = trucks.progress;
     HeadAnswer {
-        progress: progress,
+        progress,
         items: items.value as usize,
         trucks: trucks.value as usize,
     }

@@ -177,10 +177,7 @@ fn sum_trucks(t: &[u32], limits: Limits, rows: &[u32]) -> UsedTrucks
             + cost;
         end = start;
     }
-    UsedTrucks {
-        count: count,
-        cost: cost,
-    }
+    UsedTrucks { count, cost }
 }
 
 // The answer on a plan that keeps every rule.

@@ -233,13 +233,10 @@ pub fn number_line(file: &[u8], p: Progress, key: &[u8], low: u32, high: u32) ->
     let mut out: [u32; 1] = [0];
     let progress = row_line(file, p, key, &lows, &highs, &mut out);
     if entries(progress) == 0 {
-        return NumberAnswer {
-            progress: progress,
-            value: 0,
-        };
+        return NumberAnswer { progress, value: 0 };
     }
     NumberAnswer {
-        progress: progress,
+        progress,
         value: out[0],
     }
 }

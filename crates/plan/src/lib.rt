@@ -181,7 +181,7 @@ pub fn read_plan(
     let read = read_stacks(limits, file, announced, items, trucks, count as usize, part);
     let progress = at_end(file, read);
     PlanAnswer {
-        progress: progress,
+        progress,
         stacks: count,
     }
 }

@@ -160,9 +160,9 @@ fn without_cost(number: u32, first: u32, second: u32) -> Answer
     ensures { λ a. ⌜ a ≡ refusal number (place first second 0) ⌝ }
 {
     Answer {
-        number: number,
-        first: first,
-        second: second,
+        number,
+        first,
+        second,
         third: 0,
         cost: 0,
         trucks: 0,

@@ -49,9 +49,9 @@ pub fn place_if(broken: bool, first: u32, second: u32, third: u32) -> Found
 {
     if broken {
         return Found::At(Place {
-            first: first,
-            second: second,
-            third: third,
+            first,
+            second,
+            third,
         });
     }
     Found::Nothing

@@ -110,9 +110,9 @@ pub fn read_footprint(t: &[u32], limits: Limits, s: usize) -> Footprint
     let x = stack_field(t, limits, s, X);
     let y = stack_field(t, limits, s, Y);
     Footprint {
-        x: x,
+        x,
         xe: x + extent.along,
-        y: y,
+        y,
         ye: y + extent.across,
     }
 }
@@ -142,7 +142,7 @@ pub fn read_size(t: &[u32], limits: Limits, s: usize) -> Size
     let heights = load_sum(t, limits, s, 0, IH);
     let nested = load_sum(t, limits, s, 1, NESTING);
     Size {
-        weight: weight,
+        weight,
         height: heights - nested,
     }
 }
@@ -204,10 +204,7 @@ fn widened(span: Span, order: u32) -> Span
     if highest < order {
         highest = order;
     }
-    Span {
-        lowest: lowest,
-        highest: highest,
-    }
+    Span { lowest, highest }
 }
 
 // The span of the plant dock orders of a stack's items.
@@ -237,7 +234,7 @@ pub fn read_rank(t: &[u32], limits: Limits, s: usize) -> Rank
     let supplier = item_field(t, limits, bottom, IU);
     let span = plant_dock_span(t, limits, s);
     Rank {
-        supplier: supplier,
+        supplier,
         dock: item_field(t, limits, bottom, IK),
         supplier_order: supplier_order(t, limits, s, supplier) as u32,
         dock_order: supplier_dock_order(t, limits, s, bottom) as u32,
