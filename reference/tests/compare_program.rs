@@ -26,12 +26,19 @@ fn fresh_folder(name: &str) -> PathBuf {
     folder
 }
 
-/// A program that prints the same whatever the files say.
-fn program_printing(name: &str, lines: &str) -> PathBuf {
+/// A program that prints the same whatever the files say, and ends with this status.
+fn program_printing(name: &str, lines: &str, status: u8) -> PathBuf {
     let path = fresh_folder(name).join("program");
-    std::fs::write(&path, format!("#!/bin/sh\ncat <<'end'\n{lines}end\n")).unwrap();
+    std::fs::write(&path, format!("#!/bin/sh\ncat <<'end'\n{lines}end\nexit {status}\n")).unwrap();
     std::fs::set_permissions(&path, PermissionsExt::from_mode(0o755)).unwrap();
     path
+}
+
+/// The six lines of the answer of a listed case.
+fn lines_of(words: &[String]) -> String {
+    let names = ["number", "first", "second", "third", "cost", "trucks"];
+    let numbers = names.iter().zip(&words[1..7]);
+    numbers.map(|(name, number)| format!("{name}={number}\n")).collect()
 }
 
 #[test]
@@ -51,17 +58,11 @@ fn a_program_that_always_accepts_differs() {
     let list = listed(&cases);
     // The answer of an accepted case, so that this case alone agrees, and others with that answer if there are any.
     let accepted = list.iter().find(|words| words[1] == "0").unwrap();
-    let names = ["number", "first", "second", "third", "cost", "trucks"];
-    let lines: String = names
-        .iter()
-        .zip(&accepted[1..7])
-        .map(|(name, number)| format!("{name}={number}\n"))
-        .collect();
     let agree = list.iter().filter(|words| words[1..7] == accepted[1..7]).count();
     let run = compare(
         "program-accepts",
         &cases,
-        &program_printing("program-accepting", &lines),
+        &program_printing("program-accepting", &lines_of(accepted), 0),
     );
     assert_eq!(run.status.code(), Some(1));
     let printed = String::from_utf8_lossy(&run.stdout).into_owned();
@@ -75,15 +76,11 @@ fn a_program_that_always_accepts_differs() {
 }
 
 #[test]
-fn a_byte_too_many_differs() {
-    let cases = generate("program-byte", &["1", "7", "--small"]);
-    let words = &listed(&cases)[0];
-    let answer = format!(
-        "number={}\nfirst={}\nsecond={}\nthird={}\ncost={}\ntrucks={}\n",
-        words[1], words[2], words[3], words[4], words[5], words[6]
-    );
-    for (more, code) in [("", 0), ("\n", 1)] {
-        let program = program_printing("program-byte-printing", &format!("{answer}{more}"));
-        assert_eq!(compare("program-bytes", &cases, &program).status.code(), Some(code));
+fn a_byte_too_many_and_a_failing_end_differ() {
+    let cases = generate("program-one", &["1", "7", "--small"]);
+    let answer = lines_of(&listed(&cases)[0]);
+    for (more, status, code) in [("", 0, 0), ("\n", 0, 1), ("", 3, 1)] {
+        let program = program_printing("program-one-printing", &format!("{answer}{more}"), status);
+        assert_eq!(compare("program-one-run", &cases, &program).status.code(), Some(code));
     }
 }

@@ -3,6 +3,7 @@
 mod common;
 
 use common::generator::{generate, listed, order_group, same_files};
+use common::refused;
 use std::collections::{BTreeMap, BTreeSet};
 use std::path::{Path, PathBuf};
 use std::process::Command;
@@ -16,13 +17,13 @@ fn lines_of(path: &Path) -> Vec<String> {
     text.lines().map(str::to_string).collect()
 }
 
-/// The label of each stored case, and its answer as six numbers.
+/// The label of each stored case, and the six lines of its answer. A seventh line follows those of each case.
 fn stored_answers() -> Vec<(String, Vec<String>)> {
     let labels = lines_of(&kept().join("data/labels.txt"));
     let printed = lines_of(&kept().join("stdout"));
-    assert_eq!(labels.len(), printed.len());
-    let answer = |line: &String| line.split(' ').take(6).map(str::to_string).collect();
-    labels.into_iter().zip(printed.iter().map(answer)).collect()
+    assert_eq!(7 * labels.len(), printed.len());
+    let answers = printed.chunks(7).map(|lines| lines[..6].to_vec());
+    labels.into_iter().zip(answers).collect()
 }
 
 #[test]
@@ -42,11 +43,17 @@ fn the_stored_cases_are_those_of_the_generator() {
 }
 
 #[test]
+fn the_program_is_run_on_the_shipped_example() {
+    let root = Path::new(env!("CARGO_MANIFEST_DIR")).join("..");
+    same_files(&root.join("crates/loadcheck/data"), &root.join("examples/printed"));
+}
+
+#[test]
 fn every_verdict_is_stored_and_many_cases_are_of_the_whole_check() {
     let stored = stored_answers();
     let verdicts: BTreeSet<&str> = stored.iter().map(|(_, answer)| answer[0].as_str()).collect();
     for verdict in 0..=28 {
-        assert!(verdicts.contains(verdict.to_string().as_str()), "{verdict}");
+        assert!(verdicts.contains(format!("number={verdict}").as_str()), "{verdict}");
     }
     let labels: BTreeSet<&str> = stored.iter().map(|(label, _)| label.as_str()).collect();
     assert_eq!(labels.len(), stored.len(), "each case has a name of its own");
@@ -77,7 +84,7 @@ fn a_table_is_short_below_the_named_words() {
         if words == "8976" {
             assert_eq!(answer, &stored[whole], "{label}");
         } else {
-            assert_eq!(answer.join(" "), "1 0 0 0 0 0", "{label}");
+            assert_eq!(answer.join("\n") + "\n", refused(1, 0, 0, 0).to_string(), "{label}");
         }
         lent += 1;
     }

@@ -1,7 +1,7 @@
 -- From what reading and judging promise to what the check promises.
-use mathlib.Core.Path.{_≡_, refl, sym, ap, _∙_}
+use mathlib.Core.Path.{_≡_, sym, ap, _∙_}
 use mathlib.Core.Bool.{Bool, true, false, cond}
-use mathlib.Core.Option.{Option, none, some}
+use mathlib.Core.Option.{some}
 use mathlib.Core.List.{List}
 use Prim.Native.Nat.{ℕ, _*_, _≤_}
 use native.Mathlib.Omega.{arith}
@@ -14,8 +14,10 @@ use Rattle.meaning.specs.Table.{instanceIn, stacksIn}
 use Rattle.meaning.specs.Places.{place}
 use Rattle.meaning.specs.Verdict.{refusal, verdictOn}
 use Rattle.meaning.specs.Check.{Reading, refused, readable, readFiles, answerTo, answer, tableAfter}
+use Rattle.meaning.specs.Claims.{Readable as Files}
 use Rattle.meaning.proofs.TableAfter.{table-after}
-use Rattle.meaning.proofs.Picture.{answer-is, accepted-when-feasible}
+use Rattle.meaning.proofs.Readable.{readable-answer, readable-exactly}
+use Rattle.meaning.proofs.Feasible.{accepted-when-feasible}
 use Rattle.meaning.proofs.AnyOrder.{order-free, any-order}
 use Rattle.table.specs.Filled.{Filled}
 use Rattle.reading.specs.declared.FilesRead.{FilesRead}
@@ -37,7 +39,8 @@ module _ (m : Limits) (instance plan table₀ table : List ℕ) (a : Answer) whe
       record {
         answered = e;
         words = w;
-        picture = λ h r. rw e (accepted-when-feasible m (length table₀) instance plan h r);
+        readableExactly = rw e (readable-exactly m (length table₀) instance plan);
+        acceptedWhenFeasible = λ r. rw e (accepted-when-feasible m (length table₀) instance plan r);
         orderFree = λ r plan′ o. let t = order-free m (length table₀) instance plan plan′ r o in (t .0, t .1 ∙ sym e);
         anyOrder = any-order m instance plan;
       }
@@ -47,8 +50,9 @@ module _ (m : Limits) (instance plan table₀ table : List ℕ) (a : Answer) whe
     pub judged : r ≡ Readable → a ≡ verdictOn (instanceIn m table) (stacksIn m table) → CheckPromise m instance plan table₀ table a
     judged e v =
         let size : length table ≡ length table₀ = ap length (h .words) ∙ table-after m table₀ instance plan .size in
+        let files : Files m instance plan = record { says = instanceIn m table; stacks = stacksIn m table; read = h .model e } in
         let room : named m ≤ length table₀ = omega (arith, h .filled e .room, size) in
-        promised (v ∙ sym (answer-is m (length table₀) instance plan (instanceIn m table) (stacksIn m table) room (h .model e))) (h .words)
+        promised (v ∙ sym (readable-answer m (length table₀) instance plan (record { room = room; files = files }))) (h .words)
 
     -- on others it is what reading refuses them for
     pub declined : refusalOf r ≡ some (refusalAnswer r) → a ≡ refusalAnswer r → CheckPromise m instance plan table₀ table a

@@ -35,11 +35,12 @@ fn check_within(
     }
 }
 
-// Checks a plan against its instance, by the limits of document 01. The table is filled with what the files say; a table under 8,976 words
-// is refused. Any bytes and any table may be given.
+// Checks a plan against its instance, by the limits of document 01. Any bytes and any table may be given. The named words of the table are
+// then what the files say, or zero where the files cannot be read; a table under 8,976 words is refused and stays as it is.
 pub fn check(instance: &[u8], plan: &[u8], table: &mut [u32]) -> Answer
     ensures { λ r. ⌜ CheckPromise small (now (instance .entry)) (now (plan .entry)) (now (table .entry)) (now (table .exit)) r ⌝ }
 {
+    // A word for each item; for each stack a key, a place and the 16 words of its row.
     let mut times = [0u32; 256];
     let mut keys = [0u64; 256];
     let mut order = [0u32; 256];

@@ -1,5 +1,6 @@
 -- The verdict rule by rule: accepted exactly when no rule lists a place, otherwise the first broken rule at its lowest place.
 use mathlib.Core.Path.{_≡_, refl, sym, ap, _∙_}
+use mathlib.Core.Logic.{inl, inr}
 use mathlib.Core.Option.{Option, none, some}
 use mathlib.Core.List.{List, [], _∷_, _++_, append-nil}
 use Prim.Native.Nat.{ℕ, _≤_}
@@ -13,11 +14,11 @@ use Rattle.meaning.specs.Model.{Instance, Stack}
 use Rattle.meaning.specs.Measures.{usedTrucks}
 use Rattle.meaning.specs.Rules.{Rule, rules}
 use Rattle.meaning.specs.Verdict.{acceptance, brokenOr, firstBroken, cost, verdictOn}
-use Rattle.meaning.specs.Claims.{KeptBy, AcceptedExactly, RefusedExactly}
+use Rattle.meaning.specs.Claims.{KeptBy, AcceptedExactly, RefusedExactly, NoneOf1To8}
 
--- number 0 accepts, so no rule has it
+-- number 0 accepts and 1 to 8 are of reading, so no rule has one of them
 abbrev Numbered : Rule → Type 0
-Numbered r = 1 ≤ r .verdict
+Numbered r = 9 ≤ r .verdict
 
 numbered : Every Numbered rules
 unfolding rules
@@ -30,10 +31,16 @@ own-number n q none later = refl
 own-number n q (some r) later = refl
 
 -- so where the answer has number 0, the rule lists no place and the later rules gave that answer
-no-place : (n : ℕ) (l : List Place) (later : Answer) → 1 ≤ n → brokenOr n (lowest l) later .number ≡ 0 → (l ≡ []) × (later .number ≡ 0)
+no-place : (n : ℕ) (l : List Place) (later : Answer) → 9 ≤ n → brokenOr n (lowest l) later .number ≡ 0 → (l ≡ []) × (later .number ≡ 0)
 unfolding brokenOr lowest
 no-place n [] later h e = (refl, e)
 no-place n (q ∷ l) later h e = absurd (omega (arith, h, e, own-number n q (lowest l) later))
+
+-- either way the answer has no number of reading
+either-number : (n : ℕ) (o : Option Place) (later : Answer) → 9 ≤ n → NoneOf1To8 (later .number) → NoneOf1To8 (brokenOr n o later .number)
+unfolding brokenOr
+either-number n none later h k = k
+either-number n (some q) later h k = inr h
 
 module _ (i : Instance) (p : List Stack) (kept : Answer) where
   -- rules that are kept leave the answer to the rules after them
@@ -56,9 +63,19 @@ module _ (i : Instance) (p : List Stack) (kept : Answer) where
       let k = no-place (r .verdict) (r .places i p) (firstBroken rs i p kept) (h .0) e in
       (k .0, none-broken rs (h .1) (k .1))
 
+  -- an answer other than `kept` has the number of a rule
+  kept-or-numbered : (rs : List Rule) → Every Numbered rs → kept .number ≡ 0 → NoneOf1To8 (firstBroken rs i p kept .number)
+  unfolding firstBroken
+  kept-or-numbered [] h e = inl e
+  kept-or-numbered (r ∷ rs) h e = either-number (r .verdict) (lowest (r .places i p)) (firstBroken rs i p kept) (h .0) (kept-or-numbered rs (h .1) e)
+
 -- the answer of a plan that keeps every rule
 abbrev keptAnswer : Instance → List Stack → Answer
 keptAnswer i p = acceptance (cost i p) (length (usedTrucks p))
+
+pub verdict-number : (i : Instance) (p : List Stack) → NoneOf1To8 (verdictOn i p .number)
+unfolding verdictOn
+verdict-number i p = kept-or-numbered i p (keptAnswer i p) rules numbered refl
 
 pub accepted-exactly : AcceptedExactly
 unfolding verdictOn

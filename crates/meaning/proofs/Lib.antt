@@ -27,7 +27,8 @@ pub mod Heights
 pub mod Chains
 pub mod LoadingOrder
 pub mod Levers
-pub mod Picture
+pub mod Readable
+pub mod Feasible
 pub mod PrintedLoad
 pub mod VerdictOrder
 pub mod AnyOrder

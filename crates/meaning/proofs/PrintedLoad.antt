@@ -11,8 +11,8 @@ use Rattle.meaning.specs.Check.{Reading, refused, readable, readFiles, a
 use Rattle.meaning.specs.Feasible.{Feasible}
 use Rattle.meaning.specs.Print.{commaJoined}
 use Rattle.meaning.specs.Example.{Lines, fileOf, edited, setX, printedLoad, printedStacks}
-use Rattle.meaning.specs.Claims.{Readable}
-use Rattle.meaning.proofs.Picture.{accepted-when-feasible}
+use Rattle.meaning.specs.Claims.{ReadableInto}
+use Rattle.meaning.proofs.Feasible.{accepted-when-feasible}
 
 -- what a reading says, where it says something
 abbrev instanceOf : Reading → Instance
@@ -30,20 +30,26 @@ readAs plan = readFiles small (fileOf printedLoad) (fileOf plan)
 abbrev movedStacks : Lines
 movedStacks = edited (setX "1") printedStacks
 
-printed-read : Readable small (fileOf printedLoad) (fileOf printedStacks)
-unfolding readFiles
-printed-read = record { says = instanceOf (readAs printedStacks); stacks = stacksOf (readAs printedStacks); read = refl }
+-- with just enough words
+abbrev IsReadable : Lines → Type 0
+IsReadable plan = ReadableInto small (named small) (fileOf printedLoad) (fileOf plan)
 
-moved-read : Readable small (fileOf printedLoad) (fileOf movedStacks)
+printed-read : IsReadable printedStacks
+unfolding readFiles
+printed-read =
+    record { room = le-refl (named small); files = record { says = instanceOf (readAs printedStacks); stacks = stacksOf (readAs printedStacks); read = refl } }
+
+moved-read : IsReadable movedStacks
 unfolding readFiles commaParts commaJoined
-moved-read = record { says = instanceOf (readAs movedStacks); stacks = stacksOf (readAs movedStacks); read = refl }
+moved-read =
+    record { room = le-refl (named small); files = record { says = instanceOf (readAs movedStacks); stacks = stacksOf (readAs movedStacks); read = refl } }
 
 pub printed-feasible : Feasible (instanceOf (readAs printedStacks)) (stacksOf (readAs printedStacks))
 unfolding answer printed-read
-printed-feasible = accepted-when-feasible small (named small) (fileOf printedLoad) (fileOf printedStacks) (le-refl (named small)) printed-read .0 refl
+printed-feasible = accepted-when-feasible small (named small) (fileOf printedLoad) (fileOf printedStacks) printed-read .0 refl
 
 pub moved-infeasible : Feasible (instanceOf (readAs movedStacks)) (stacksOf (readAs movedStacks)) → ⊥
 unfolding answer moved-read commaParts commaJoined
 moved-infeasible f =
-    let e : _≡_ {A = ℕ} 24 0 = accepted-when-feasible small (named small) (fileOf printedLoad) (fileOf movedStacks) (le-refl (named small)) moved-read .1 f in
+    let e : _≡_ {A = ℕ} 24 0 = accepted-when-feasible small (named small) (fileOf printedLoad) (fileOf movedStacks) moved-read .1 f in
     omega (arith, e)

@@ -8,7 +8,8 @@ use Rattle.meaning.proofs.Printed.{read-printed}
 use Rattle.meaning.proofs.ReadExactly.{read-exactly}
 use Rattle.meaning.proofs.Decode.{decodes}
 use Rattle.meaning.proofs.TableAfter.{table-after, read-refused}
-use Rattle.meaning.proofs.Picture.{accepted-when-feasible}
+use Rattle.meaning.proofs.Readable.{readable-exactly}
+use Rattle.meaning.proofs.Feasible.{accepted-when-feasible}
 use Rattle.meaning.proofs.AnyOrder.{order-free, any-order}
 
 pub theorems : (m : Limits) → Theorems m
@@ -24,6 +25,7 @@ theorems m =
       readRefused = read-refused m;
       decodes = decodes m;
       tableAfter = table-after m;
+      readableExactly = readable-exactly m;
       acceptedWhenFeasible = accepted-when-feasible m;
       orderFree = order-free m;
       anyOrder = any-order m;

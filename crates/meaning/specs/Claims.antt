@@ -141,12 +141,28 @@ pub record RefusedReading (a : Answer) : Type 0 where
 abbrev pub ReadRefused : Limits → Type 0
 ReadRefused m = (instance plan : List ℕ) (a : Answer) → readFiles m instance plan ≡ refused a → RefusedReading a
 
--- ---- demand 3 (proofs/Picture: accepted-when-feasible; proofs/AnyOrder: order-free, any-order)
+-- ---- "A plan is readable when none of 1 to 8 arises" (proofs/Readable: readable-exactly)
+-- the table is long enough, and the two files can be read
+pub record ReadableInto (m : Limits) (tableLength : ℕ) (instance plan : List ℕ) : Type 0 where
+  pub room : named m ≤ tableLength
+  pub files : Readable m instance plan
+
+-- an answer's number that accepts the plan or is that of a rule
+abbrev pub NoneOf1To8 : ℕ → Type 0
+NoneOf1To8 n = (n ≡ 0) ⊎ (9 ≤ n)
+
+-- so the number tells whether the plan is readable
+abbrev pub ReadableExactly : Limits → Type 0
+ReadableExactly m =
+    (tableLength : ℕ) (instance plan : List ℕ)
+    → ReadableInto m tableLength instance plan ↔ NoneOf1To8 (answer m tableLength instance plan .number)
+
+-- ---- demand 3 (proofs/Feasible: accepted-when-feasible; proofs/AnyOrder: order-free, any-order)
 -- a readable plan is accepted exactly when its picture holds
 abbrev pub AcceptedWhenFeasible : Limits → Type 0
 AcceptedWhenFeasible m =
-    (tableLength : ℕ) (instance plan : List ℕ) → named m ≤ tableLength → (r : Readable m instance plan)
-    → (answer m tableLength instance plan .number ≡ 0) ↔ Feasible (r .says) (r .stacks)
+    (tableLength : ℕ) (instance plan : List ℕ) (r : ReadableInto m tableLength instance plan)
+    → (answer m tableLength instance plan .number ≡ 0) ↔ Feasible (r .files .says) (r .files .stacks)
 
 -- a readable plan with its stacks in another order is readable and has the same answer
 abbrev pub OrderFree : Limits → Type 0
@@ -177,6 +193,7 @@ pub record Theorems (m : Limits) : Type 0 where
   pub readRefused : ReadRefused m
   pub decodes : Decodes m
   pub tableAfter : TableAfter m
+  pub readableExactly : ReadableExactly m
   pub acceptedWhenFeasible : AcceptedWhenFeasible m
   pub orderFree : OrderFree m
   pub anyOrder : AnyOrder m

@@ -111,19 +111,19 @@ impl Stored {
     }
 }
 
-/// The line for one case: number, three places, cost, used trucks, checksum of the whole table; then for the answer's bad line and for
-/// each that is asked besides: its file, start and end, and a checksum of its bytes.
+/// What is printed for one case: the six lines of the answer; then one line with a checksum of the whole table and, for the answer's bad
+/// line and for each that is asked besides, its file, start and end, and a checksum of its bytes.
 fn printed(instance: &[u8], plan: &[u8], words: usize) -> String {
     let mut table = vec![BEFORE; TABLE_WORDS];
     let answer = check(instance, plan, &mut table[..words]);
-    let mut line = format!("{} {}", answer.in_one_line(), checksum(table.into_iter()));
+    let mut lines = format!("{answer}{}", checksum(table.into_iter()));
     for (number, asked) in [(answer.number, answer.first)].into_iter().chain(ASKED) {
         let (file, start, end) = located(instance, plan, number, asked);
         let bytes = bad_line(instance, plan, number, asked).iter();
         let sum = checksum(bytes.map(|&byte| u32::from(byte)));
-        write!(line, "; {file} {start} {end} {sum}").expect("a string takes every line");
+        write!(lines, "; {file} {start} {end} {sum}").expect("a string takes every line");
     }
-    line
+    lines
 }
 
 fn checksum(words: impl Iterator<Item = u32>) -> u64 {

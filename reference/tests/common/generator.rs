@@ -31,9 +31,7 @@ pub fn listed_answers_hold(folder: &Path) {
         assert_eq!(words.len(), 8, "{words:?}");
         let read = |kind: &str| std::fs::read(folder.join(format!("{}.{kind}", words[0]))).unwrap();
         let answer = check(&read("instance"), &read("plan"), &mut vec![1; NAMED_WORDS + 1]);
-        let places = format!("{} {} {}", answer.first, answer.second, answer.third);
-        let found = format!("{} {places} {} {}", answer.number, answer.cost, answer.trucks);
-        assert_eq!(found, words[1..7].join(" "), "{words:?}");
+        assert_eq!(answer.in_one_line(), words[1..7].join(" "), "{words:?}");
     }
 }
 

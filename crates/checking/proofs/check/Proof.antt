@@ -28,7 +28,10 @@ same-length : tie.Need-same-length
 same-length c = search needs
 
 returns : tie.Need-returns
-returns c = rw (c .before .before .before .before .before .before .before .before .before .before .before .before .small-limits .ensures .0) at (c .before .before .before .before .before .before .check-within .ensures)
+returns c =
+    let checked = c .before .before .before .before .before .before in
+    let limits = checked .before .before .before .before .before .before in
+    rw (limits .small-limits .ensures .0) at (checked .check-within .ensures)
 
 pub check-spec : {M : Type 1} → statement M
 check-spec =

@@ -1,5 +1,6 @@
-//! A fixed list of cases through the whole check: some aimed at each verdict, others taken as they come, overlong files, plans of full
-//! size, and plans whose stacks are given in several orders. Every draw comes from one seed, so the files are always the same.
+//! A fixed list of cases through the whole check: some aimed at each verdict, two neighbouring rules broken together, stacks with one and
+//! two plant docks, others taken as they come, overlong files, plans of full size, and plans whose stacks are given in several orders.
+//! Every draw comes from one seed, so the files are always the same.
 
 use crate::mutate::{mixed_supplier_alone, Change, CHANGES};
 use crate::packed::{packed, Case, Size, Wish};
@@ -29,7 +30,8 @@ type Recipe = fn(&mut Random, Size) -> Made;
 /// Recipes that are taken as they come, and how many cases each gives.
 const UNAIMED: [(Recipe, u64); 4] = [(unaimed, 50), (nudged, 60), (at_range_end, 30), (damaged_twice, 40)];
 
-/// Each group of cases draws for itself, so that a change of one leaves the others as they are.
+/// Each group of cases draws for itself, so that a change of one leaves the others as they are. A group's place here is part of its seed, so
+/// a new one goes last.
 #[derive(Clone, Copy)]
 enum Group {
     Small,
@@ -114,7 +116,7 @@ fn add_neighbours(cases: &mut Vec<Made>) {
     }
 }
 
-/// The later rule is broken before the earlier one, so that it is seen to be broken.
+/// The later rule is broken first, since it is seen to be broken only as long as the earlier one is kept.
 fn broken_twice(rng: &mut Random, target: u32) -> Option<Made> {
     let later = target + 1;
     let suited = rng.pick(&[target, later]);

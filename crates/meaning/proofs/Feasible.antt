@@ -2,15 +2,12 @@
 use mathlib.Core.Path.{_≡_}
 use mathlib.Core.Logic.{_↔_}
 use mathlib.Core.List.{List, _++_}
-use Prim.Native.Nat.{ℕ, _≤_}
-use borrow.Author.Tests.{le-ltb}
+use Prim.Native.Nat.{ℕ}
 use Rattle.meaning.specs.declared.Limits.{Limits}
 use Rattle.meaning.specs.Lists.{Every}
-use Rattle.meaning.specs.Limits.{named}
 use Rattle.meaning.specs.Model.{Instance, Stack}
 use Rattle.meaning.specs.Rules.{rules, itemRules, stackRules, placementRules, weightRules, plantDocksAllowed, plantDockCount}
 use Rattle.meaning.specs.Verdict.{verdictOn}
-use Rattle.meaning.specs.Check.{readable, readFiles, answerTo, answer}
 use Rattle.meaning.specs.Feasible.{Feasible}
 use Rattle.meaning.specs.Claims.{KeptBy, AcceptedWhenFeasible}
 use Rattle.meaning.proofs.Tests.{iff-trans}
@@ -18,6 +15,7 @@ use Rattle.meaning.proofs.Lists.{every-append}
 use Rattle.meaning.proofs.RuleKinds.{stacks-kept}
 use Rattle.meaning.proofs.Sound.{Sound, in-range-sound}
 use Rattle.meaning.proofs.Ranges.{read-in-range}
+use Rattle.meaning.proofs.Readable.{readable-answer}
 use Rattle.meaning.proofs.Accepted.{accepted-exactly}
 use Rattle.meaning.proofs.ItemRules.{once-exactly, items-exactly}
 use Rattle.meaning.proofs.StackRules.{stacks-exactly, pairs-exactly}
@@ -96,14 +94,8 @@ module _ (i : Instance) (p : List Stack) (sound : Sound i p) where
   pub verdict-exactly : (verdictOn i p .number ≡ 0) ↔ Feasible i p
   verdict-exactly = iff-trans (accepted-exactly i p .0) (iff-trans by-family (kept-holds, holds-kept))
 
--- where the table is long enough, the answer is the verdict on what was read
-pub answer-is : (m : Limits) (n : ℕ) (instance plan : List ℕ) (i : Instance) (p : List Stack) → named m ≤ n → readFiles m instance plan ≡ readable i p
-    → answer m n instance plan ≡ verdictOn i p
-unfolding answer answerTo
-answer-is m n instance plan i p h e = rw (le-ltb n (named m) h, e)
-
 pub accepted-when-feasible : (m : Limits) → AcceptedWhenFeasible m
-accepted-when-feasible m n instance plan h r =
-    let i = r .says in
-    let p = r .stacks in
-    rw (answer-is m n instance plan i p h (r .read)) (verdict-exactly i p (in-range-sound m i p (read-in-range m instance plan r)))
+accepted-when-feasible m n instance plan r =
+    let i = r .files .says in
+    let p = r .files .stacks in
+    rw (readable-answer m n instance plan r) (verdict-exactly i p (in-range-sound m i p (read-in-range m instance plan (r .files))))
