@@ -63,7 +63,7 @@ single-turned : (i : Instance) (s r : Stack) → singlePair i s r ≡ singlePair
 single-turned i s r =
     rw (and-comm (eqb (plantDockCount i s) 2) (eqb (plantDockCount i r) 2), eqb-turned (IS (bottom i s)) (IS (bottom i r))) refl
 
-disjoint-turned : (i : Instance) (s r : Stack) → disjoint i s r ≡ disjoint i r s
+pub disjoint-turned : (i : Instance) (s r : Stack) → disjoint i s r ≡ disjoint i r s
 disjoint-turned i s r = pairs-turned (leb (xe i s) (x r)) (leb (xe i r) (x s)) (leb (ye i s) (y r)) (leb (ye i r) (y s))
 
 -- a stack is in loading order with itself

@@ -38,28 +38,30 @@ pub record Unheld (i : Instance) (p : List Stack) (start end k b : ℕ) : Type 0
 ground-x : (i : Instance) (s : Stack) {ground : Footprint} → ground ≡ footprintOf i s → ground .x ≡ x s
 ground-x i s e = ap (λ (g : Footprint). g .x) e
 
-pub at-front : (i : Instance) {p : List Stack} {start end : ℕ} → OneTruck p start end → (k : ℕ) {ground : Footprint} → ground ≡ footprintOf i (visitAt p k)
-    → ground .x ≡ 0 → true ≡ braced i (block p start end) (visitAt p k)
-at-front i {p} one k e h = let s = visitAt p k in rw (eq-eqb (x s) 0 (sym (ground-x i s e) ∙ h)) refl
+module _ (i : Instance) {p : List Stack} {start end k : ℕ} (one : OneTruck p start end) (inside : Inside start end k)
+    {ground : Footprint} (ek : ground ≡ footprintOf i (visitAt p k)) where
+  pub at-front : ground .x ≡ 0 → true ≡ braced i (block p start end) (visitAt p k)
+  at-front h = let s = visitAt p k in rw (eq-eqb (x s) 0 (sym (ground-x i s ek) ∙ h)) refl
+
+  module _ {b : ℕ} (there : Inside start end b) {other : Footprint} (eb : other ≡ footprintOf i (visitAt p b))
+      {touched : Bool} (t : touched ≡ touches ground other) where
+    same-held : (not (eqb b k) && touched) ≡ held i (visitAt p k) (visitAt p b)
+    same-held = ap₂ _&&_ (sym (another-at one k b inside there)) (t ∙ ap₂ touches ek eb)
+
+    pub held-found : (not (eqb b k) && touched) ≡ true → true ≡ braced i (block p start end) (visitAt p k)
+    held-found e =
+        let s = visitAt p k in
+        sym (or-reads (eqb (x s) 0) (any (held i s) (block p start end)) .1
+        (inr (any-reads (held i s) (block p start end) .1 (visitAt p b, block-has one b there, sym same-held ∙ e))))
 
 module _ {i : Instance} {p : List Stack} {start end k : ℕ} (one : OneTruck p start end) where
   pub unheld-start : Unheld i p start end k start
   unheld-start = record { asked = upto-start (omega (arith, one .some)) }
 
   module _ {b : ℕ} (h : Unheld i p start end k b) {ground : Footprint} (ek : ground ≡ footprintOf i (visitAt p k)) where
-    module _ (inside : Inside start end k) (up : b < end) {other : Footprint} (eb : other ≡ footprintOf i (visitAt p b))
-        {touched : Bool} (t : touched ≡ touches ground other) where
-      same-held : (not (eqb b k) && touched) ≡ held i (visitAt p k) (visitAt p b)
-      same-held = ap₂ _&&_ (sym (another-at one k b inside (h .asked .from, up))) (t ∙ ap₂ touches ek eb)
-
-      pub held-found : (not (eqb b k) && touched) ≡ true → true ≡ braced i (block p start end) (visitAt p k)
-      held-found e =
-          let s = visitAt p k in
-          sym (or-reads (eqb (x s) 0) (any (held i s) (block p start end)) .1
-          (inr (any-reads (held i s) (block p start end) .1 (visitAt p b, block-has one b (h .asked .from, up), sym same-held ∙ e))))
-
-      pub unheld-more : (not (eqb b k) && touched) ≡ false → Unheld i p start end k (b + 1)
-      unheld-more e = record { asked = upto-more (h .asked) up (sym same-held ∙ e) }
+    pub unheld-more : Inside start end k → b < end → {other : Footprint} → other ≡ footprintOf i (visitAt p b)
+        → {touched : Bool} → touched ≡ touches ground other → (not (eqb b k) && touched) ≡ false → Unheld i p start end k (b + 1)
+    unheld-more inside up eb t e = record { asked = upto-more (h .asked) up (sym (same-held i one inside ek (h .asked .from, up) eb t) ∙ e) }
 
     pub not-braced : (ground .x ≡ 0 → ⊥) → end ≤ b → false ≡ braced i (block p start end) (visitAt p k)
     not-braced d last =

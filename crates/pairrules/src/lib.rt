@@ -47,7 +47,7 @@ fn is_single_pair(t: &[u32], limits: Limits, rows: &[u32], a: usize, b: usize) -
 }
 
 // 23 overlap, P2: two stacks lie apart along the trailer or across it.
-fn is_apart(a: Footprint, b: Footprint) -> bool
+pub fn is_apart(a: Footprint, b: Footprint) -> bool
     ensures { λ r. ⌜ r ≡ apart a b ⌝ }
 {
     (((a.xe <= b.x) | (b.xe <= a.x)) | (a.ye <= b.y)) | (b.ye <= a.y)
@@ -66,7 +66,7 @@ fn loads_before(a: Rank, b: Rank) -> bool
 }
 
 // 25 order, P4. The cheap comparison comes first: ranks are compared only where the first stack stands behind the second.
-fn in_loading_order(t: &[u32], limits: Limits, rows: &[u32], a: usize, b: usize) -> bool
+pub fn in_loading_order(t: &[u32], limits: Limits, rows: &[u32], a: usize, b: usize) -> bool
     requires { ⌜ HoldsRows limits (now t) (now rows) × (a < length (stacksIn limits (now t))) × (b < length (stacksIn limits (now t))) ⌝ }
     ensures { λ r. ⌜ r ≡ inLoadingOrder (instanceIn limits (now (t .entry))) (visitAt (stacksIn limits (now (t .entry))) a)
         (visitAt (stacksIn limits (now (t .entry))) b) ⌝ }
@@ -143,7 +143,7 @@ pub fn first_pair(
 }
 
 // 24 unbraced, P3: whether the second stack ends where the first begins and touches it; a corner is enough.
-fn braces(a: Footprint, b: Footprint) -> bool
+pub fn braces(a: Footprint, b: Footprint) -> bool
     ensures { λ r. ⌜ r ≡ touches a b ⌝ }
 {
     ((b.xe == a.x) & (a.y <= b.ye)) & (b.y <= a.ye)

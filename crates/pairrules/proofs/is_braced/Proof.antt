@@ -19,7 +19,7 @@ returns : tie.Need-returns Inv-loop μ-loop
 returns c =
     let o = c .before .before .before .before .before in
     let a = o .args in
-    at-front (instanceIn (a .limits) (a .t .now)) (o .pre .1) (a .k) (c .before .before .footprint-at .ensures) (c .if1 .taken)
+    at-front (instanceIn (a .limits) (a .t .now)) (o .pre .1) (o .pre .2, o .pre .3) (c .before .before .footprint-at .ensures) (c .if1 .taken)
 
 loop-holds : tie.Need-loop-holds Inv-loop μ-loop
 loop-holds c = unheld-start (c .before .before .before .before .before .pre .1)
@@ -35,7 +35,9 @@ returns-2 c =
     let l = c .before .before .before .before in
     let o = l .before .before .before in
     let p = o .before .before .before .pre in
-    held-found (p .1) (l .loop .inv) (o .footprint-at .ensures) (p .2, p .3) (c .before .before .before .loop-test .taken)
+    let a = o .before .before .before .args in
+    held-found (instanceIn (a .limits) (a .t .now)) (p .1) (p .2, p .3) (o .footprint-at .ensures)
+    (l .loop .inv .asked .from, c .before .before .before .loop-test .taken)
     (c .before .before .footprint-at2 .ensures) (c .before .braces .ensures) (c .if2 .taken)
 
 add-b : tie.Need-add-b Inv-loop μ-loop

@@ -1,0 +1,5 @@
+pub mod Keys
+pub mod Places
+pub mod Clear
+pub mod InOrder
+pub mod Kept
