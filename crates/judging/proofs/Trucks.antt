@@ -1,6 +1,6 @@
 -- A search over the used trucks, from the last visited to the first: what is found so far is the lowest place among their stacks.
 use mathlib.Core.Path.{_≡_, refl, sym, ap, ap₂, _∙_}
-use mathlib.Core.List.{List, [], List·Permᴰ}
+use mathlib.Core.List.{List, [], _++_, List·Permᴰ}
 use Prim.Native.Nat.{ℕ, _≤_}
 use native.Mathlib.Omega.{arith}
 use lib.ListN.{length, drop, drop-of-length-le}
@@ -39,11 +39,26 @@ axle-unordered Middle i = middleFits-perm i
 axle-unordered Rear i = rearFits-perm i
 
 -- the order of the stacks does not matter
-same-places : (rule : TruckRule) (i : Instance) (p p′ : List Stack) → List·Permᴰ p p′ → Same (truckRulePlaces rule i p) (truckRulePlaces rule i p′)
+pub same-places : (rule : TruckRule) (i : Instance) (p p′ : List Stack) → List·Permᴰ p p′ → Same (truckRulePlaces rule i p) (truckRulePlaces rule i p′)
 same-places (EachPair rule) i p p′ h = pairPlaces-same i p p′ h (pairTest rule)
 same-places Unbraced i p p′ h = stackPlaces-same i p p′ h braced noAmount (braced-perm i p p′ h)
 same-places Overload i p p′ h = truckPlaces-same i p p′ h withinLoadLimit (loadFits-perm i)
 same-places (EachDeparture axle) i p p′ h = departurePlaces-same i p p′ h (axleTest axle) (axle-unordered axle i)
+
+-- ---- the places of a rule among the stacks that are visited from a place on
+module _ (rule : TruckRule) (i : Instance) (p : List Stack) where
+  -- behind the last stack there are none
+  pub places-end : (end : ℕ) → end ≡ length p → truckRulePlaces rule i (drop end (visited p)) ≡ []
+  places-end end e =
+      let past : length (visited p) ≤ end = omega (arith, visited-length p) in
+      rw (drop-of-length-le (visited p) past) (no-places rule i)
+
+  -- those on a used truck, and those behind it
+  pub places-split : {start end : ℕ} → OneTruck p start end → Parted p end
+      → truckRulePlaces rule i (drop start (visited p)) ≡ truckRulePlaces rule i (block p start end) ++ truckRulePlaces rule i (drop end (visited p))
+  places-split {start} {end} one parted =
+      ap (truckRulePlaces rule i) (block-split p start end (omega (arith, one .some)))
+      ∙ rule-apart i (block p start end) (drop end (visited p)) (block-apart one parted) rule
 
 -- ---- the loop
 -- `found` is the lowest place among the stacks that are visited from `end` on
@@ -54,27 +69,18 @@ pub record DownTrucks (rule : TruckRule) (i : Instance) (p : List Stack) (end : 
 
 module _ {rule : TruckRule} {i : Instance} {p : List Stack} where
   pub trucks-start : {end : ℕ} → end ≡ length p → DownTrucks rule i p end Nothing
-  trucks-start {end} e =
-      let past : length (visited p) ≤ end = omega (arith, visited-length p) in
-      record {
-        upto = omega arith;
-        parted = rw e (parted-end p);
-        is = rw (drop-of-length-le (visited p) past, no-places rule i) (sym lowest-none);
-      }
+  trucks-start {end} e = record { upto = omega arith; parted = rw e (parted-end p); is = rw (places-end rule i p end e) (sym lowest-none) }
 
   -- one used truck more
   pub trucks-more : {start end : ℕ} {f found r : Found} → DownTrucks rule i p end found → OneTruck p start end × Parted p start
       → f ≡ lowestIn (truckRulePlaces rule i (block p start end)) → r ≡ lowerFound f found → DownTrucks rule i p start r
   trucks-more {start} {end} {f} {found} {r} h o ef er =
-      let first = block p start end in
-      let rest = drop end (visited p) in
-      let upto : start ≤ end = omega (arith, o .0 .some) in
+      let first = truckRulePlaces rule i (block p start end) in
+      let rest = truckRulePlaces rule i (drop end (visited p)) in
       record {
-        upto = omega (arith, o .0 .within);
+        upto = omega (arith, o .0 .some, o .0 .within);
         parted = o .1;
-        is = er ∙ ap₂ lowerFound ef (h .is) ∙ sym (lowest-append (truckRulePlaces rule i first) (truckRulePlaces rule i rest))
-            ∙ sym (ap (λ (l : List Stack). lowestIn (truckRulePlaces rule i l)) (block-split p start end upto)
-            ∙ ap lowestIn (rule-apart i first rest (block-apart (o .0) (h .parted)) rule));
+        is = er ∙ ap₂ lowerFound ef (h .is) ∙ sym (lowest-append first rest) ∙ sym (ap lowestIn (places-split rule i p (o .0) (h .parted)));
       }
 
   pub trucks-end : {end : ℕ} {found : Found} → DownTrucks rule i p end found → end ≤ 0 → found ≡ lowestIn (truckRulePlaces rule i p)

@@ -21,7 +21,6 @@ use Rattle.search.specs.Lowest.{foundOf, lowestIn}
 use Rattle.search.specs.declared.Found.{Found}
 use Rattle.search.specs.declared.Found.the-variants.{At, Nothing}
 use Rattle.judging.specs.Judging.{rulePlaces, laterRules, ruleOf}
-use Rattle.judging.specs.declared.Rule.{Rule}
 
 -- ---- an answer of a search, taken back
 none-back : (o : Option Place) → Nothing ≡ foundOf o → o ≡ none
@@ -98,9 +97,9 @@ module _ {i : Instance} {p : List Stack} {kept : Answer} where
   pub asked-start : Asked i p kept 10
   asked-start = record { from = omega arith; upto = omega arith; is = refl }
 
-  module _ {v : ℕ} (h : Asked i p kept v) (more : v ≤ 28) {rule : Rule} {found : Found} (named : rule ≡ ruleOf v) (e : found ≡ lowestIn (rulePlaces rule i p)) where
+  module _ {v : ℕ} (h : Asked i p kept v) (more : v ≤ 28) {found : Found} (e : found ≡ lowestIn (rulePlaces (ruleOf v) i p)) where
     asked : found ≡ lowestIn (tableRow v .places i p)
-    asked = e ∙ rw (named, row-places v (h .from) more) refl
+    asked = e ∙ rw (row-places v (h .from) more) refl
 
     pub asked-broken : (q : Place) → found ≡ At q → refusal v q ≡ firstBroken (drop 1 rules) i p kept
     asked-broken q f =

@@ -1,5 +1,6 @@
 // The verdict on a plan that was read: the first broken rule of 9 to 28 with its lowest place, or the cost and the number of used trucks.
 ghost use mathlib.Core.Path.{_≡_};
+ghost use mathlib.Core.Bool.{true};
 ghost use Prim.Native.Nat.{_-_, _*_, _≤_, _<_};
 ghost use lib.ListN.{length, drop};
 ghost use Rattle.meaning.specs.Lists.{sum};
@@ -10,6 +11,7 @@ ghost use Rattle.meaning.specs.Verdict.{refusal, acceptance, firstBroken, cost,
 ghost use Rattle.table.specs.Filled.{Filled, stackAt, TruckNumber};
 ghost use Rattle.search.specs.Lowest.{lowestIn};
 ghost use Rattle.visits.specs.Visits.{block, HoldsRows, OneTruck};
+ghost use Rattle.sweep.specs.Along.{Settled};
 ghost use Rattle.judging.specs.Judging.{truckRulePlaces, rulePlaces, ruleOf, usedTruck};
 use axles::Axle;
 use axles::lowest_departure;
@@ -26,6 +28,7 @@ use stackrules::ItemRule;
 use stackrules::StackRule;
 use stackrules::lowest_not_once;
 use stackrules::lowest_stack;
+use sweep::is_settled;
 use table::extra_coefficient;
 use table::fields::IC;
 use table::fields::IDL;
@@ -89,6 +92,30 @@ fn lowest_truck(rule: TruckRule, t: &[u32], limits: Limits, rows: &[u32]) -> Fou
         end = start;
     }
     found
+}
+
+// Whether rules 23 to 25 are known to be kept. Most plans keep them, and a sweep along the trailer tells so without looking at every pair;
+// only where it cannot, the searches for the lowest place are asked. The keys and the places along the trailer are scratch.
+fn pairs_settled(
+    t: &[u32],
+    limits: Limits,
+    rows: &[u32],
+    keys: &mut [u64],
+    along: &mut [u32],
+) -> bool
+    requires { ⌜ HoldsRows limits (now t) (now rows) × (length (stacksIn limits (now t)) ≤ length (now keys))
+        × (length (stacksIn limits (now t)) ≤ length (now along)) ⌝ }
+    ensures { λ r. ⌜ (r ≡ true → Settled (instanceIn limits (now (t .entry))) (stacksIn limits (now (t .entry)))) ⌝ }
+{
+    let mut end = stack_count(t, limits);
+    while 0 < end {
+        let start = truck_start(t, limits, rows, end);
+        if !is_settled(t, limits, rows, start, end, keys, along) {
+            return false;
+        }
+        end = start;
+    }
+    true
 }
 
 // ---- cost and used trucks
@@ -247,6 +274,18 @@ fn lowest_place(rule: Rule, t: &[u32], limits: Limits, rows: &[u32]) -> Found
     }
 }
 
+// The lowest place where the rule of a verdict is broken. Where rules 23 to 25 are settled, there is none to look for.
+fn lowest_unsettled(settled: bool, verdict: u32, t: &[u32], limits: Limits, rows: &[u32]) -> Found
+    requires { ⌜ HoldsRows limits (now t) (now rows) × (10 ≤ verdict) × (verdict ≤ 28)
+        × (settled ≡ true → Settled (instanceIn limits (now t)) (stacksIn limits (now t))) ⌝ }
+    ensures { λ r. ⌜ r ≡ lowestIn (rulePlaces (ruleOf verdict) (instanceIn limits (now (t .entry))) (stacksIn limits (now (t .entry)))) ⌝ }
+{
+    if settled & ((23 <= verdict) & (verdict <= 25)) {
+        return Found::Nothing;
+    }
+    lowest_place(rule_of(verdict), t, limits, rows)
+}
+
 // The answer on a broken rule.
 fn refuse(verdict: u32, place: Place) -> Answer
     ensures { λ r. ⌜ r ≡ refusal verdict place ⌝ }
@@ -262,15 +301,15 @@ fn refuse(verdict: u32, place: Place) -> Answer
 }
 
 // The verdict by rules 10 to 28, each over the whole plan before the next.
-fn judge_visited(t: &[u32], limits: Limits, rows: &[u32]) -> Answer
-    requires { ⌜ HoldsRows limits (now t) (now rows) ⌝ }
+fn judge_visited(settled: bool, t: &[u32], limits: Limits, rows: &[u32]) -> Answer
+    requires { ⌜ HoldsRows limits (now t) (now rows) × (settled ≡ true → Settled (instanceIn limits (now t)) (stacksIn limits (now t))) ⌝ }
     ensures { λ r. ⌜ r ≡ firstBroken (drop 1 rules) (instanceIn limits (now (t .entry))) (stacksIn limits (now (t .entry)))
         (acceptance (cost (instanceIn limits (now (t .entry))) (stacksIn limits (now (t .entry))))
         (length (usedTrucks (stacksIn limits (now (t .entry)))))) ⌝ }
 {
     let mut verdict: u32 = 10;
     while verdict <= 28 {
-        let found = lowest_place(rule_of(verdict), t, limits, rows);
+        let found = lowest_unsettled(settled, verdict, t, limits, rows);
         match found {
             Found::At(place) => return refuse(verdict, place),
             Found::Nothing => {}
@@ -301,5 +340,6 @@ pub fn judge(
         Found::Nothing => {}
     }
     visit_stacks(t, limits, keys, order, rows);
-    judge_visited(t, limits, rows)
+    let settled = pairs_settled(t, limits, rows, keys, order);
+    judge_visited(settled, t, limits, rows)
 }

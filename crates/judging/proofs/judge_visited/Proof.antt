@@ -11,22 +11,19 @@ use Rattle.judging.proofs.judge_visited.Statement.{statement}
 use Rattle.judging.proofs.judge_visited.Tie as tie
 
 abbrev Inv-loop : tie.InvT-loop
-Inv-loop t limits rows verdict₀ verdict =
+Inv-loop settled t limits rows verdict₀ verdict =
     let i = instanceIn limits t in
     let p = stacksIn limits t in
     Asked i p (acceptance (cost i p) (length (usedTrucks p))) verdict
 
 abbrev μ-loop : tie.MeasureT-loop
-μ-loop t limits rows verdict₀ verdict = 29 - verdict
+μ-loop settled t limits rows verdict₀ verdict = 29 - verdict
 
 loop-holds : tie.Need-loop-holds Inv-loop μ-loop
 loop-holds c = asked-start
 
-rule-of-requires : tie.Need-rule-of-requires Inv-loop μ-loop
-rule-of-requires c κs = search needs
-
-lowest-place-requires : tie.Need-lowest-place-requires Inv-loop μ-loop
-lowest-place-requires c κs = search needs
+lowest-unsettled-requires : tie.Need-lowest-unsettled-requires Inv-loop μ-loop
+lowest-unsettled-requires c κs = search needs
 
 enum-known-found : tie.Need-enum-known-found Inv-loop μ-loop
 enum-known-found c = search needs
@@ -38,9 +35,7 @@ returns : tie.Need-returns Inv-loop μ-loop
 returns c =
     let f = c .before .before in
     let l = f .before .before in
-    let r = l .before in
-    c .refuse .ensures
-    ∙ asked-broken (r .before .before .loop .inv) (r .before .loop-test .taken) (r .rule-of .ensures) (l .lowest-place .ensures) _ (f .found .given .1)
+    c .refuse .ensures ∙ asked-broken (l .before .before .loop .inv) (l .before .loop-test .taken) (l .lowest-unsettled .ensures) _ (f .found .given .1)
 
 enum-told : tie.Need-enum-told Inv-loop μ-loop
 enum-told c = search needs
@@ -54,8 +49,7 @@ loop-less c = search needs
 loop-again : tie.Need-loop-again Inv-loop μ-loop
 loop-again c =
     let l = c .before .before in
-    let r = l .before in
-    asked-kept (r .before .before .loop .inv) (r .before .loop-test .taken) (r .rule-of .ensures) (l .lowest-place .ensures) (c .enum-told .given .1)
+    asked-kept (l .before .before .loop .inv) (l .before .loop-test .taken) (l .lowest-unsettled .ensures) (c .enum-told .given .1)
 
 accept-requires : tie.Need-accept-requires Inv-loop μ-loop
 accept-requires c κs = search needs
@@ -72,8 +66,7 @@ judge-visited-spec =
     Inv-loop
     μ-loop
     loop-holds
-    rule-of-requires
-    lowest-place-requires
+    lowest-unsettled-requires
     enum-known-found
     refuse-requires
     returns
