@@ -31,7 +31,8 @@ fn find_line(file: &[u8], line: u32) -> LineFound
     LineFound::Absent
 }
 
-// The part of a file that the bad line is: whether that file is the plan, and from where to where.
+// The part of a file that the bad line is: whether that file is the plan, and from where to where. Its fields lie as in C.
+#[repr(C)]
 pub struct BadLine {
     pub plan: bool,
     pub start: usize,

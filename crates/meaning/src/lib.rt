@@ -17,7 +17,9 @@ pub struct Place {
     pub third: u32,
 }
 
-// The answer of a check: verdict number, its three places, cost in thousandths, number of used trucks.
+// The answer of a check: verdict number, its three places, cost in thousandths, number of used trucks. Other languages are handed it as
+// it is, so its fields lie as in C.
+#[repr(C)]
 pub struct Answer {
     pub number: u32,
     pub first: u32,
