@@ -2,6 +2,7 @@
 
 pub mod case_folder;
 pub mod cost;
+pub mod generator;
 pub mod item_rules;
 pub mod loading;
 pub mod model;

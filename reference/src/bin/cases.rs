@@ -1,36 +1,6 @@
 //! Writes generated cases on the edges of the rules, with the answers of the reference.
 
-#[path = "cases/checking.rs"]
-mod checking;
-#[path = "cases/damage.rs"]
-mod damage;
-#[path = "cases/limits.rs"]
-mod limits;
-#[path = "cases/mutate.rs"]
-mod mutate;
-#[path = "cases/packed.rs"]
-mod packed;
-#[path = "cases/plant_docks.rs"]
-mod plant_docks;
-#[path = "cases/random.rs"]
-mod random;
-#[path = "cases/reading.rs"]
-mod reading;
-#[path = "cases/reading_fields.rs"]
-mod reading_fields;
-#[path = "cases/reading_files.rs"]
-mod reading_files;
-#[path = "cases/reading_lines.rs"]
-mod reading_lines;
-#[path = "cases/reading_numbers.rs"]
-mod reading_numbers;
-#[path = "cases/recipe.rs"]
-mod recipe;
-#[path = "cases/render.rs"]
-mod render;
-
-use random::Random;
-use recipe::Made;
+use reference::generator::{self, Made};
 use std::fmt::Write;
 use std::path::{Path, PathBuf};
 use std::process::ExitCode;
@@ -117,13 +87,9 @@ fn write_cases(order: &Order) -> std::io::Result<[u64; 29]> {
 /// The cases one after the other, and the letter their names begin with.
 fn cases_of(content: &Content) -> (char, Box<dyn Iterator<Item = Made>>) {
     match *content {
-        Content::Random { count, seed, small } => {
-            // Each case has its own stream, so it does not depend on those before it.
-            let made = move |index| recipe::make(&mut Random::new(seed, index), small);
-            ('c', Box::new((0..count).map(made)))
-        }
-        Content::Reading => ('r', Box::new(reading::all().into_iter())),
-        Content::Check => ('k', Box::new(checking::all().into_iter())),
+        Content::Random { count, seed, small } => ('c', Box::new(generator::random(count, seed, small))),
+        Content::Reading => ('r', Box::new(generator::reading().into_iter())),
+        Content::Check => ('k', Box::new(generator::checking().into_iter())),
     }
 }
 

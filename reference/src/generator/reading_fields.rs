@@ -1,7 +1,7 @@
 //! Every field at both ends of its range and one beyond each.
 
-use crate::damage::entries;
-use crate::reading::{kind_of, Cases, Kind, Load, ITEMS, KINDS, TRUCKS};
+use super::damage::entries;
+use super::reading::{kind_of, Cases, Kind, Load, ITEMS, KINDS, TRUCKS};
 
 /// A field by its place in the line, with both ends of its range.
 struct Field {

@@ -1,6 +1,6 @@
 //! Writes an instance and a plan as the two files.
 
-use reference::model::{Instance, Plan, Truck};
+use crate::model::{Instance, Plan, Truck};
 
 fn line(text: &mut Vec<u8>, key: &str, numbers: &[u32]) {
     text.extend_from_slice(key.as_bytes());

@@ -1,36 +1,11 @@
 //! Chooses what a case is to show and makes it.
 
-use crate::damage::{self, Damage, StackLines, Text};
-use crate::mutate::{Change, CHANGES};
-use crate::packed::{packed, Case, Size, Wish};
-use crate::random::Random;
-use crate::render;
-use reference::table::NAMED_WORDS;
-use reference::{check, Answer, MOST_BYTES};
-
-/// Two files, their answer, and a word on how they were made.
-pub struct Made {
-    pub kind: String,
-    pub instance: Vec<u8>,
-    pub plan: Vec<u8>,
-    pub answer: Answer,
-}
-
-impl Made {
-    pub fn new(kind: impl Into<String>, instance: Vec<u8>, plan: Vec<u8>) -> Self {
-        let answer = check(&instance, &plan, &mut vec![0; NAMED_WORDS]);
-        Made {
-            kind: kind.into(),
-            instance,
-            plan,
-            answer,
-        }
-    }
-
-    pub fn of(kind: impl Into<String>, case: &Case) -> Self {
-        Made::new(kind, render::instance(&case.instance), render::plan(&case.plan))
-    }
-}
+use super::damage::{self, Damage, StackLines, Text};
+use super::mutate::{Change, CHANGES};
+use super::packed::{packed, Case, Size, Wish};
+use super::random::Random;
+use super::{render, Made};
+use crate::MOST_BYTES;
 
 /// Every verdict that a full table and short files can reach.
 pub const TARGETS: [u32; 26] = [

@@ -1,9 +1,9 @@
 //! Builds an instance together with a plan that keeps every rule.
 
-use crate::limits;
-use crate::random::Random;
-use reference::loading::Footprint;
-use reference::model::{Instance, Item, Plan, Stack, Tractor, Trailer, Truck};
+use super::limits;
+use super::random::Random;
+use crate::loading::Footprint;
+use crate::model::{Instance, Item, Plan, Stack, Tractor, Trailer, Truck};
 use std::collections::HashSet;
 
 #[derive(Clone)]

@@ -1,7 +1,7 @@
 //! Faults that more than one line makes: whole files, repeats, counts, the load total, and which of two faults is told.
 
-use crate::damage::{entries, key, Text};
-use crate::reading::{kind_of, Cases, File, Kind, Load, KINDS};
+use super::damage::{entries, key, Text};
+use super::reading::{kind_of, Cases, File, Kind, Load, KINDS};
 
 const FILES: [(&str, File); 2] = [("instance", File::Instance), ("plan", File::Plan)];
 

@@ -1,9 +1,9 @@
 //! Small changes of an accepted case, each aimed at one verdict.
 
-use crate::limits;
-use crate::packed::Case;
-use crate::random::Random;
-use reference::model::{Item, Truck};
+use super::limits;
+use super::packed::Case;
+use super::random::Random;
+use crate::model::{Item, Truck};
 
 /// Changes the case; false when there was nothing to change.
 pub type Change = fn(&mut Case, &mut Random) -> bool;

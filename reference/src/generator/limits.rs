@@ -1,10 +1,10 @@
 //! The smallest limits a plan keeps, and trucks fitted to them.
 
-use crate::packed::Case;
-use crate::random::Random;
-use reference::loading::{LoadedStack, Loading};
-use reference::model::Truck;
-use reference::weights::{self, Departure};
+use super::packed::Case;
+use super::random::Random;
+use crate::loading::{LoadedStack, Loading};
+use crate::model::Truck;
+use crate::weights::{self, Departure};
 
 const HEAVIEST: i64 = 50_000;
 

@@ -1,7 +1,7 @@
 //! Numbers written wrongly or with the most digits, and commas too many, on every kind of line.
 
-use crate::damage::entries;
-use crate::reading::{Cases, Load, KINDS};
+use super::damage::entries;
+use super::reading::{Cases, Load, KINDS};
 
 /// What is written in place of a number.
 type Form = fn(u64) -> String;

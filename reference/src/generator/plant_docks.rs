@@ -1,7 +1,7 @@
 //! Two stacks of one supplier dock, one behind the other, with every choice of one plant dock or two neighbouring ones for each. What the
 //! loading order asks of stacks with two plant docks is too seldom met by chance.
 
-use crate::recipe::Made;
+use super::Made;
 
 /// The truck's plant docks in loading order, which is not the order of their numbers.
 const PLANT_DOCKS: [u32; 3] = [7, 5, 9];

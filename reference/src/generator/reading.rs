@@ -1,9 +1,9 @@
 //! Bad and edge input of the two files, one case after the other and without randomness. Each case is a small change of
 //! one accepted load.
 
-use crate::damage::{key, Text};
-use crate::recipe::Made;
-use crate::{reading_fields, reading_files, reading_lines, reading_numbers};
+use super::damage::{key, Text};
+use super::Made;
+use super::{reading_fields, reading_files, reading_lines, reading_numbers};
 use std::collections::HashSet;
 
 /// Every kind of line occurs. No identifier is 1, so that an entry put at its low end repeats no other; and the plan

@@ -2,15 +2,16 @@
 //! two plant docks, others taken as they come, overlong files, plans of full size, and plans whose stacks are given in several orders.
 //! Every draw comes from one seed, so the files are always the same.
 
-use crate::mutate::{mixed_supplier_alone, Change, CHANGES};
-use crate::packed::{packed, Case, Size, Wish};
-use crate::plant_docks;
-use crate::random::Random;
-use crate::reading::Load;
-use crate::reading_files::filled;
-use crate::recipe::{aimed, at_range_end, changed_once, damaged_twice, in_other_order, nudged, unaimed, wish_for};
-use crate::recipe::{Made, LARGE, MEDIUM, SMALL, TARGETS};
-use reference::MOST_BYTES;
+use super::mutate::{mixed_supplier_alone, Change, CHANGES};
+use super::packed::{packed, Case, Size, Wish};
+use super::plant_docks;
+use super::random::Random;
+use super::reading::Load;
+use super::reading_files::filled;
+use super::recipe::{aimed, at_range_end, changed_once, damaged_twice, in_other_order, nudged, unaimed, wish_for};
+use super::recipe::{LARGE, MEDIUM, SMALL, TARGETS};
+use super::Made;
+use crate::MOST_BYTES;
 
 const SEED: u64 = 2022;
 

@@ -1,7 +1,7 @@
 //! Faults of whole lines, on every kind of line: key, signs, odd bytes, count of entries, and lines not where they belong.
 
-use crate::damage::{entries, key, Text};
-use crate::reading::{kind_of, Cases, Kind, KINDS};
+use super::damage::{entries, key, Text};
+use super::reading::{kind_of, Cases, Kind, KINDS};
 
 /// Changes the line of that index.
 type LineFault = fn(&mut Text, usize);

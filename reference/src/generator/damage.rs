@@ -1,6 +1,6 @@
 //! Damage to the bytes of a file: wrong form, values out of range, and single numbers moved by one.
 
-use crate::random::Random;
+use super::random::Random;
 
 /// A file cut into lines. The counts bound the numbers of the plan.
 #[derive(Clone)]

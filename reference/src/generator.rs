@@ -1,0 +1,62 @@
+//! Cases on the edges of the rules, with the answers of the reference. The same call always gives the same cases.
+
+mod checking;
+mod damage;
+mod limits;
+mod mutate;
+mod packed;
+mod plant_docks;
+mod random;
+mod reading;
+mod reading_fields;
+mod reading_files;
+mod reading_lines;
+mod reading_numbers;
+mod recipe;
+mod render;
+
+use crate::table::NAMED_WORDS;
+use crate::{check, Answer};
+use packed::Case;
+use random::Random;
+
+/// Two files, their answer, and a word on how they were made.
+#[derive(Debug, Clone, PartialEq, Eq)]
+pub struct Made {
+    pub kind: String,
+    pub instance: Vec<u8>,
+    pub plan: Vec<u8>,
+    pub answer: Answer,
+}
+
+impl Made {
+    fn new(kind: impl Into<String>, instance: Vec<u8>, plan: Vec<u8>) -> Self {
+        let answer = check(&instance, &plan, &mut vec![0; NAMED_WORDS]);
+        Made {
+            kind: kind.into(),
+            instance,
+            plan,
+            answer,
+        }
+    }
+
+    fn of(kind: impl Into<String>, case: &Case) -> Self {
+        Made::new(kind, render::instance(&case.instance), render::plan(&case.plan))
+    }
+}
+
+/// So many random cases, with `small` of small loads only; the same seed gives the same cases.
+pub fn random(count: u64, seed: u64, small: bool) -> impl Iterator<Item = Made> {
+    // Each case has its own stream, so it does not depend on those before it.
+    (0..count).map(move |index| recipe::make(&mut Random::new(seed, index), small))
+}
+
+/// Every bad and edge input of the two files, each a small change of one load; that load comes first.
+pub fn reading() -> Vec<Made> {
+    reading::all()
+}
+
+/// A fixed list of cases through every verdict, from small to full size, some with their stacks in other orders.
+pub fn checking() -> Vec<Made> {
+    checking::all()
+}
