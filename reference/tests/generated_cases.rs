@@ -1,21 +1,16 @@
-//! The generator: same seed, same files; the listed answers are those of the check.
+//! The random cases: same seed, same files.
 
 mod common;
 
-use common::generator::{generate, listed, listed_answers_hold, same_files};
+use common::generator::written_as_made;
+use reference::generator::random;
 
 #[test]
-fn the_same_seed_gives_the_same_files() {
-    let first = generate("first", &["300", "5", "--small"]);
-    let second = generate("second", &["300", "5", "--small"]);
-    same_files(&first, &second);
-    assert_eq!(listed(&first).len(), 300);
-    listed_answers_hold(&first);
+fn small_cases_are_always_the_same() {
+    written_as_made("small", &["300", "5", "--small"], random(300, 5, true));
 }
 
 #[test]
-fn mixed_sizes_are_answered_as_listed() {
-    let folder = generate("mixed", &["300", "6"]);
-    assert_eq!(listed(&folder).len(), 300);
-    listed_answers_hold(&folder);
+fn cases_of_mixed_sizes_are_always_the_same() {
+    written_as_made("mixed", &["300", "6"], random(300, 6, false));
 }

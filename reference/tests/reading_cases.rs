@@ -2,11 +2,12 @@
 
 mod common;
 
-use common::generator::{generate, listed, listed_answers_hold, same_files};
+use common::generator::written_as_made;
+use reference::generator::reading;
 use std::collections::BTreeSet;
 
-const FORM: [&str; 2] = ["4", "7"];
-const RANGE: [&str; 2] = ["5", "8"];
+const FORM: [u32; 2] = [4, 7];
+const RANGE: [u32; 2] = [5, 8];
 
 /// Faults by the end of their names.
 const WRONG_FORM: &[&str] = &[
@@ -58,34 +59,36 @@ const OUT_OF_RANGE: &[&str] = &[
 
 #[test]
 fn the_files_are_always_the_same() {
-    let first = generate("reading-first", &["--reading"]);
-    let second = generate("reading-second", &["--reading"]);
-    same_files(&first, &second);
-    listed_answers_hold(&first);
+    written_as_made("reading", &["--reading"], reading());
 }
 
 #[test]
 fn the_unchanged_load_is_accepted_and_every_verdict_of_reading_occurs() {
-    let list = listed(&generate("reading-verdicts", &["--reading"]));
-    assert_eq!(list[0][1], "0");
-    assert_eq!(list[0][7], "unchanged");
-    let verdicts: BTreeSet<&str> = list.iter().map(|words| words[1].as_str()).collect();
-    for verdict in ["0", "2", "3", "4", "5", "6", "7", "8"] {
-        assert!(verdicts.contains(verdict), "{verdict}");
+    let cases = reading();
+    assert_eq!(cases[0].answer.number, 0);
+    assert_eq!(cases[0].kind, "unchanged");
+    let verdicts: BTreeSet<u32> = cases.iter().map(|made| made.answer.number).collect();
+    for verdict in [0, 2, 3, 4, 5, 6, 7, 8] {
+        assert!(verdicts.contains(&verdict), "{verdict}");
     }
-    let kinds: BTreeSet<&str> = list.iter().map(|words| words[7].as_str()).collect();
-    assert_eq!(kinds.len(), list.len(), "each case has a name of its own");
+    let names: BTreeSet<&str> = cases.iter().map(|made| made.kind.as_str()).collect();
+    assert_eq!(names.len(), cases.len(), "each case has a name of its own");
 }
 
 #[test]
 fn each_fault_has_the_verdict_its_name_promises() {
-    let list = listed(&generate("reading-names", &["--reading"]));
+    let cases = reading();
     for (ends, verdicts) in [(WRONG_FORM, FORM), (OUT_OF_RANGE, RANGE)] {
         for end in ends {
-            let mut named = list.iter().filter(|words| words[7].ends_with(end)).peekable();
+            let mut named = cases.iter().filter(|made| made.kind.ends_with(end)).peekable();
             assert!(named.peek().is_some(), "{end}");
-            for words in named {
-                assert!(verdicts.contains(&words[1].as_str()), "{words:?}");
+            for made in named {
+                assert!(
+                    verdicts.contains(&made.answer.number),
+                    "{}: {:?}",
+                    made.kind,
+                    made.answer
+                );
             }
         }
     }

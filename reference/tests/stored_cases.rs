@@ -2,8 +2,9 @@
 
 mod common;
 
-use common::generator::{generate, listed, order_group, same_files};
+use common::generator::{generate, order_group, same_files};
 use common::refused;
+use reference::generator::checking;
 use std::collections::{BTreeMap, BTreeSet};
 use std::path::{Path, PathBuf};
 use std::process::Command;
@@ -57,8 +58,8 @@ fn every_verdict_is_stored_and_many_cases_are_of_the_whole_check() {
     }
     let labels: BTreeSet<&str> = stored.iter().map(|(label, _)| label.as_str()).collect();
     assert_eq!(labels.len(), stored.len(), "each case has a name of its own");
-    let check = listed(&generate("stored-count", &["--check"]));
-    let count = check.iter().filter(|words| labels.contains(words[7].as_str())).count();
+    let check = checking();
+    let count = check.iter().filter(|made| labels.contains(made.kind.as_str())).count();
     assert!(count >= 400, "{count}");
 }
 

@@ -1,7 +1,8 @@
-//! Runs the generator and checks what it lists.
+//! Runs the program that writes the generator's cases, and reads what it lists.
 
-use reference::check;
+use reference::generator::Made;
 use reference::table::NAMED_WORDS;
+use reference::{case_folder, check};
 use std::path::{Path, PathBuf};
 use std::process::Command;
 
@@ -26,12 +27,19 @@ pub fn listed(folder: &Path) -> Vec<Vec<String>> {
         .collect()
 }
 
-pub fn listed_answers_hold(folder: &Path) {
-    for words in listed(folder) {
-        assert_eq!(words.len(), 8, "{words:?}");
-        let read = |kind: &str| std::fs::read(folder.join(format!("{}.{kind}", words[0]))).unwrap();
-        let answer = check(&read("instance"), &read("plan"), &mut vec![1; NAMED_WORDS + 1]);
-        assert_eq!(answer.in_one_line(), words[1..7].join(" "), "{words:?}");
+/// The program writes these cases. They are made anew here, so it shows too when they are not the same every time.
+pub fn written_as_made(folder: &str, options: &[&str], cases: impl IntoIterator<Item = Made>) {
+    let folder = generate(folder, options);
+    let made: Vec<Made> = cases.into_iter().collect();
+    let (listed, written) = (listed(&folder), case_folder::read(&folder).unwrap());
+    assert_eq!(listed.len(), made.len());
+    for ((words, written), made) in listed.iter().zip(written).zip(made) {
+        assert_eq!(written.label, made.kind);
+        assert!(written.instance == made.instance, "instance of {words:?}");
+        assert!(written.plan == made.plan, "plan of {words:?}");
+        let answer = check(&made.instance, &made.plan, &mut vec![1; NAMED_WORDS + 1]);
+        assert_eq!(made.answer, answer, "{words:?}");
+        assert_eq!(words[1..7].join(" "), answer.in_one_line(), "{words:?}");
     }
 }
 
