@@ -14,6 +14,7 @@ mod reading_lines;
 mod reading_numbers;
 mod recipe;
 mod render;
+mod sized;
 
 use crate::table::NAMED_WORDS;
 use crate::{check, Answer};
@@ -59,4 +60,14 @@ pub fn reading() -> Vec<Made> {
 /// A fixed list of cases through every verdict, from small to full size, some with their stacks in other orders.
 pub fn checking() -> Vec<Made> {
     checking::all()
+}
+
+/// An accepted load of 1 to 256 stacks, one item each: all on one used truck, or on at least one for every 16 stacks.
+pub fn sized(stacks: u32, one_truck: bool) -> Made {
+    sized::load(stacks, one_truck)
+}
+
+/// The load of that size on many used trucks, but with an item number out of range in the last line of its plan.
+pub fn unreadable_at_the_end(stacks: u32) -> Made {
+    sized::unreadable_at_the_end(stacks)
 }

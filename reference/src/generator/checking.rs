@@ -4,27 +4,24 @@
 
 use super::mutate::{mixed_supplier_alone, Change, CHANGES};
 use super::packed::{packed, Case, Size, Wish};
-use super::plant_docks;
 use super::random::Random;
 use super::reading::Load;
 use super::reading_files::filled;
-use super::recipe::{aimed, at_range_end, changed_once, damaged_twice, in_other_order, nudged, unaimed, wish_for};
+use super::recipe::{
+    aimed, at_range_end, changed_once, damaged_twice, drawn, in_other_order, nudged, unaimed, wish_for,
+};
 use super::recipe::{LARGE, MEDIUM, SMALL, TARGETS};
-use super::Made;
+use super::{plant_docks, sized, Made};
 use crate::MOST_BYTES;
 
 const SEED: u64 = 2022;
 
 /// Small cases for each verdict.
 const FOR_EACH_VERDICT: u64 = 14;
-/// Not every draw is as it is wanted, so others follow.
-const MOST_TRIES: usize = 200;
 /// With so many stacks there are six orders.
 const LEAST_STACKS: usize = 3;
 /// Stacks that a medium case has at least.
 const MEDIUM_STACKS: usize = 8;
-/// Used trucks that a case of full size is spread over at least.
-const SPREAD: u32 = 16;
 
 type Recipe = fn(&mut Random, Size) -> Made;
 
@@ -65,12 +62,6 @@ pub fn all() -> Vec<Made> {
 
 fn add(cases: &mut Vec<Made>, label: String, made: Made) {
     cases.push(Made { kind: label, ..made });
-}
-
-/// The first draw that gives a case.
-fn drawn(mut draw: impl FnMut() -> Option<Made>) -> Made {
-    let found = (0..MOST_TRIES).find_map(|_| draw());
-    found.expect("some draw gives a case")
 }
 
 fn with_verdict(made: Made, target: u32) -> Option<Made> {
@@ -175,25 +166,12 @@ fn add_overlong(cases: &mut Vec<Made>) {
 /// As many stacks as there may be, one item each: all on one used truck, accepted and refused late, and spread over many.
 fn add_large(cases: &mut Vec<Made>) {
     let mut rng = stream(Group::Large, 0);
-    let spread = Wish {
-        many_docks: true,
-        tight: true,
-        full: true,
-        ..Wish::default()
-    };
-    let together = Wish {
-        one_truck: true,
-        ..spread
-    };
-    let case = packed(&mut rng, LARGE, together);
+    let case = packed(&mut rng, LARGE, Wish::full_size(true));
     for (word, target) in [("overlap", 23), ("loading-order", 25), ("rear", 28)] {
         cases.push(broken(&mut rng, &case, &format!("large-one-truck-{word}"), target));
     }
     add_in_orders(cases, &mut rng, "large-one-truck", Made::of("", &case));
-    cases.push(drawn(|| {
-        let made = Made::of("large-spread", &packed(&mut rng, LARGE, spread));
-        (made.answer.trucks >= SPREAD).then_some(made)
-    }));
+    add(cases, "large-spread".to_string(), sized::spread(&mut rng, LARGE));
 }
 
 /// The case with a change that gets it the verdict aimed at.

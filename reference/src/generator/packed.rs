@@ -37,6 +37,19 @@ pub struct Wish {
     pub full: bool,
 }
 
+impl Wish {
+    /// As many stacks as the size allows, one item each, with much to compare and no limit to spare.
+    pub fn full_size(one_truck: bool) -> Self {
+        Wish {
+            one_truck,
+            many_docks: true,
+            tight: true,
+            full: true,
+            ..Wish::default()
+        }
+    }
+}
+
 struct Kind {
     code: u32,
     length: u32,

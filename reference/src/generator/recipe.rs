@@ -34,6 +34,15 @@ pub const LARGE: Size = Size {
     docks: 8,
 };
 
+/// Not every draw is as it is wanted, so others follow.
+const MOST_TRIES: usize = 200;
+
+/// The first draw that gives a case.
+pub fn drawn(mut draw: impl FnMut() -> Option<Made>) -> Made {
+    let found = (0..MOST_TRIES).find_map(|_| draw());
+    found.expect("some draw gives a case")
+}
+
 fn draw_size(rng: &mut Random, small: bool) -> Size {
     match rng.below(20) {
         _ if small => SMALL,
@@ -111,7 +120,7 @@ fn aimed_once(rng: &mut Random, size: Size, target: u32) -> Made {
     }
 }
 
-fn accepted(rng: &mut Random, size: Size, wish: Wish) -> Made {
+pub fn accepted(rng: &mut Random, size: Size, wish: Wish) -> Made {
     let case = packed(rng, size, wish);
     let kind = match (wish.full, wish.tight) {
         (true, _) => "packed-full",

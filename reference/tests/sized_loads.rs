@@ -1,0 +1,85 @@
+//! Loads of a given size: their counts, their used trucks, and the last line of one that cannot be read.
+
+mod common;
+
+use common::refused;
+use reference::bad_line;
+use reference::generator::{sized, unreadable_at_the_end, Made};
+use reference::model::{Instance, Plan};
+use reference::reader::{read_instance, read_plan};
+use std::collections::BTreeSet;
+
+const SIZES: [u32; 4] = [32, 64, 128, 256];
+
+fn read(made: &Made) -> (Instance, Plan) {
+    let instance = read_instance(&made.instance).unwrap();
+    let plan = read_plan(&made.plan, instance.items.len(), instance.trucks.len()).unwrap();
+    (instance, plan)
+}
+
+/// Accepted at a cost; everything that is counted is as many as the size asks for, with one item to a stack.
+fn is_full_load(made: &Made, stacks: u32) {
+    assert_eq!(made.answer.number, 0, "{}", made.kind);
+    assert!(made.answer.cost > 0, "{}", made.kind);
+    let (instance, plan) = read(made);
+    assert_eq!(plan.stacks.len() as u32, stacks, "{}", made.kind);
+    assert!(plan.stacks.iter().all(|stack| stack.load.len() == 1), "{}", made.kind);
+    assert_eq!(instance.items.len() as u32, stacks, "{}", made.kind);
+    assert_eq!(instance.trucks.len() as u32, stacks / 16, "{}", made.kind);
+    for truck in &instance.trucks {
+        assert_eq!((truck.products.len(), truck.suppliers.len()), (32, 8), "{}", made.kind);
+    }
+    let codes: BTreeSet<u32> = instance.items.iter().map(|item| item.code).collect();
+    assert!(codes.len() > 2, "{}: {codes:?}", made.kind);
+}
+
+#[test]
+fn one_used_truck_takes_all_stacks() {
+    for stacks in SIZES {
+        let made = sized(stacks, true);
+        is_full_load(&made, stacks);
+        assert_eq!(made.answer.trucks, 1, "{stacks}");
+    }
+}
+
+#[test]
+fn many_used_trucks_share_the_stacks() {
+    for stacks in SIZES {
+        let made = sized(stacks, false);
+        is_full_load(&made, stacks);
+        assert!(made.answer.trucks >= stacks / 16, "{stacks}: {}", made.answer.trucks);
+    }
+}
+
+#[test]
+fn a_size_always_gives_the_same_load() {
+    for one_truck in [true, false] {
+        assert!(sized(64, one_truck) == sized(64, one_truck));
+    }
+}
+
+#[test]
+fn other_sizes_work_too() {
+    for stacks in [1, 2, 15, 16, 17, 255] {
+        for one_truck in [true, false] {
+            let made = sized(stacks, one_truck);
+            assert_eq!(made.answer.number, 0, "{}", made.kind);
+            assert_eq!(read(&made).1.stacks.len() as u32, stacks, "{}", made.kind);
+        }
+    }
+}
+
+#[test]
+fn the_last_line_alone_cannot_be_read() {
+    for stacks in SIZES {
+        let made = unreadable_at_the_end(stacks);
+        let last = 2 * stacks + 1;
+        assert_eq!(made.answer, refused(8, last, 0, 0), "{stacks}");
+        let line = bad_line(&made.instance, &made.plan, 8, last);
+        assert_eq!(line, format!("load={}", stacks + 1).as_bytes());
+        let readable = sized(stacks, false);
+        assert!(made.instance == readable.instance, "{stacks}");
+        let before = made.plan.len() - line.len() - 1;
+        assert!(readable.plan.starts_with(&made.plan[..before]), "{stacks}");
+    }
+}
