@@ -8,6 +8,7 @@ pub mod loading;
 pub mod model;
 pub mod placement;
 pub mod reader;
+pub mod sentence;
 pub mod stack_rules;
 pub mod table;
 pub mod tally;
@@ -56,7 +57,7 @@ fn judge(instance: &[u8], plan: &[u8], table: &mut [u32]) -> Result<Answer, Refu
     placement::check(&loading)?;
     weights::check(&loading)?;
     Ok(Answer {
-        number: 0,
+        number: verdict::ACCEPTED,
         first: 0,
         second: 0,
         third: 0,

@@ -32,6 +32,7 @@ impl Display for Answer {
     }
 }
 
+pub const ACCEPTED: u32 = 0;
 pub const SHORT_TABLE: u32 = 1;
 pub const OVERLONG_INSTANCE: u32 = 2;
 pub const OVERLONG_PLAN: u32 = 3;
