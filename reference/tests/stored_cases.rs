@@ -18,12 +18,15 @@ fn lines_of(path: &Path) -> Vec<String> {
     text.lines().map(str::to_string).collect()
 }
 
-/// The label of each stored case, and the six lines of its answer. A seventh line follows those of each case.
+/// Lines that are printed for each case: the six of its answer, its sentence, and one of checksums and handed-back lines.
+const PRINTED: usize = 8;
+
+/// The label of each stored case, and the six lines of its answer.
 fn stored_answers() -> Vec<(String, Vec<String>)> {
     let labels = lines_of(&kept().join("data/labels.txt"));
     let printed = lines_of(&kept().join("stdout"));
-    assert_eq!(7 * labels.len(), printed.len());
-    let answers = printed.chunks(7).map(|lines| lines[..6].to_vec());
+    assert_eq!(PRINTED * labels.len(), printed.len());
+    let answers = printed.chunks(PRINTED).map(|lines| lines[..6].to_vec());
     labels.into_iter().zip(answers).collect()
 }
 

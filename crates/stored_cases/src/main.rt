@@ -1,7 +1,7 @@
 // Runs the stored cases through the check. Every word of the table holds 7 before each call, so that an untouched word shows. Printed for
-// each case: the answer in six lines, as loadcheck prints it; then one line with a checksum of the whole table and, for the answer's bad
-// line and for five further verdicts and lines: 0 for the instance or 1 for the plan, the line's start and end there, and a checksum of its
-// bytes. A verdict that names no line has the empty part at the instance's end.
+// each case: the answer in six lines, as loadcheck prints it; its sentence, as loadwhy prints it; then one line with a checksum of the whole
+// table and, for the answer's bad line and for five further verdicts and lines: 0 for the instance or 1 for the plan, the line's start and
+// end there, and a checksum of its bytes. A verdict that names no line has the empty part at the instance's end.
 //
 // data/files.bin has the files of all cases; a line of data/cases.txt says where a case's instance begins and how long it is, the same
 // of its plan, and how many words of the table are lent. data/labels.txt says in a word what each case tries.
@@ -11,6 +11,7 @@ use fileio::print_answer;
 use fileio::print_number;
 use fileio::read_file;
 use meaning::Answer;
+use sentence::print_sentence;
 use text::ParsedLine;
 
 // Every word becomes this one.
@@ -81,9 +82,10 @@ fn print_asked_lines<'a>(instance: &'a [u8], plan: &'a [u8]) {
     print_line(instance, plan, 6, 1);
 }
 
-// Prints the answer of a case and the checksum of its table.
+// Prints the answer of a case, its sentence and the checksum of its table.
 fn print_case<'a>(instance: &'a [u8], plan: &'a [u8], answer: Answer, table: u64) {
     print_answer(answer);
+    print_sentence(answer);
     print_number(table, b"");
     print_line(instance, plan, answer.number, answer.first);
     print_asked_lines(instance, plan);

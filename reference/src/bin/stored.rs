@@ -1,6 +1,7 @@
 //! Turns generated cases into the stored cases of a program of the repository: its data, and what it must print.
 
 use reference::case_folder::{self, ListedCase};
+use reference::sentence::sentence;
 use reference::{bad_line, check, text, verdict};
 use std::fmt::Write;
 use std::path::Path;
@@ -111,12 +112,12 @@ impl Stored {
     }
 }
 
-/// What is printed for one case: the six lines of the answer; then one line with a checksum of the whole table and, for the answer's bad
-/// line and for each that is asked besides, its file, start and end, and a checksum of its bytes.
+/// What is printed for one case: the six lines of the answer; its sentence; then one line with a checksum of the whole table and, for the
+/// answer's bad line and for each that is asked besides, its file, start and end, and a checksum of its bytes.
 fn printed(instance: &[u8], plan: &[u8], words: usize) -> String {
     let mut table = vec![BEFORE; TABLE_WORDS];
     let answer = check(instance, plan, &mut table[..words]);
-    let mut lines = format!("{answer}{}", checksum(table.into_iter()));
+    let mut lines = format!("{answer}{}\n{}", sentence(&answer), checksum(table.into_iter()));
     for (number, asked) in [(answer.number, answer.first)].into_iter().chain(ASKED) {
         let (file, start, end) = located(instance, plan, number, asked);
         let bytes = bad_line(instance, plan, number, asked).iter();
