@@ -73,14 +73,6 @@ fn wrong_form() {
         "transport=00",
         "transport=2,",
         "transport=,2",
-    ] {
-        assert_eq!(
-            answer(&edit(INSTANCE, "transport=2", bad), PLAN),
-            refused(4, 1, 0, 0),
-            "{bad}"
-        );
-    }
-    for bad in [
         "transport=2,2",
         "transport= 2",
         "transport=2\r",
