@@ -8,35 +8,10 @@ use std::collections::HashSet;
 
 /// Every kind of line occurs. No identifier is 1, so that an entry put at its low end repeats no other; and the plan
 /// needs no last entry of a list, so that a list changed there is still read through to an acceptance.
-const INSTANCE: &str = "transport=2
-inventory=3
-extra=200
-items=3
-trucks=2
-item=1200,800,1000,50,500,3,3,5,0,2,5,9,2,7,2,4
-item=1200,800,1000,100,400,3,3,5,0,2,5,9,2,7,2,4
-item=1000,600,900,100,300,4,2,6,0,2,5,9,3,8,3,5
-truck=13000,2400,2700,24000,9,3,1000,0,1500,100,7000,3800,1000,3000,7000,7500,2500,1500,24000,12000
-products=6,5
-suppliers=8,7
-docks=3,2
-docks=2,3
-plantdocks=3,2
-truck=12000,2300,2600,22000,9,4,900,1,1400,90,6000,3700,900,2900,6000,7400,2400,1400,23000,11000
-products=5,6
-suppliers=7,8
-docks=2,3
-docks=3,2
-plantdocks=2,3
-";
+const INSTANCE: &[u8] = include_bytes!("reading_load/instance.txt");
 
 /// An extra truck is used, so that every number of the cost counts.
-const PLAN: &str = "stacks=2
-stack=5,1,0,0,0,1
-load=3
-stack=9,2,1,0,600,1
-load=1,2
-";
+const PLAN: &[u8] = include_bytes!("reading_load/plan.txt");
 
 pub const ITEMS: usize = 3;
 pub const TRUCKS: usize = 2;
@@ -102,8 +77,8 @@ pub struct Load {
 impl Load {
     pub fn unchanged() -> Self {
         Load {
-            instance: Text::new(INSTANCE.as_bytes(), ITEMS, TRUCKS),
-            plan: Text::new(PLAN.as_bytes(), ITEMS, TRUCKS),
+            instance: Text::new(INSTANCE, ITEMS, TRUCKS),
+            plan: Text::new(PLAN, ITEMS, TRUCKS),
         }
     }
 
