@@ -4,7 +4,6 @@ use super::limits;
 use super::random::Random;
 use crate::loading::Footprint;
 use crate::model::{Instance, Item, Plan, Stack, Tractor, Trailer, Truck};
-use std::collections::HashSet;
 
 #[derive(Clone)]
 pub struct Case {
@@ -74,6 +73,10 @@ struct Draft {
 type OrderKey = (usize, usize, usize);
 
 impl Draft {
+    fn has_two_docks(&self) -> bool {
+        self.plant_docks[0] != self.plant_docks[1]
+    }
+
     fn key(&self) -> OrderKey {
         (
             self.supplier,
@@ -95,18 +98,10 @@ pub fn packed(rng: &mut Random, size: Size, wish: Wish) -> Case {
 
 fn try_packed(rng: &mut Random, size: Size, wish: Wish) -> Option<Case> {
     let top = rng.pick(&[9, 60, 65_535]);
-    let most_trucks = if wish.full {
-        size.trucks
-    } else {
-        rng.between(1, size.trucks)
-    };
-    let trucks: Vec<Truck> = (0..most_trucks).map(|_| bare_truck(rng, size, wish, top)).collect();
+    let truck_count = draw_up_to(rng, wish, 1, size.trucks);
+    let trucks: Vec<Truck> = (0..truck_count).map(|_| bare_truck(rng, size, wish, top)).collect();
     let used = draw_used(rng, trucks.len(), wish);
-    let budget = if wish.full {
-        size.items
-    } else {
-        rng.between(1, size.items)
-    };
+    let budget = draw_up_to(rng, wish, 1, size.items);
     let budget = if wish.tall {
         budget.max(size.items.min(6))
     } else {
@@ -134,19 +129,20 @@ fn try_packed(rng: &mut Random, size: Size, wish: Wish) -> Option<Case> {
     Some(case)
 }
 
+/// The most when the case is to be full.
+fn draw_up_to(rng: &mut Random, wish: Wish, least: u32, most: u32) -> u32 {
+    if wish.full {
+        most
+    } else {
+        rng.between(least, most)
+    }
+}
+
 fn bare_truck(rng: &mut Random, size: Size, wish: Wish, top: u32) -> Truck {
     let least = if wish.many_docks { size.docks.min(2) } else { 1 };
     let least_plant_docks = if wish.two_docks { size.docks.min(2) } else { least };
-    let products = if wish.full {
-        size.products
-    } else {
-        rng.between(1, size.products)
-    };
-    let suppliers = if wish.full {
-        size.docks
-    } else {
-        rng.between(least, size.docks)
-    };
+    let products = draw_up_to(rng, wish, 1, size.products);
+    let suppliers = draw_up_to(rng, wish, least, size.docks);
     let plant_docks = rng.between(least_plant_docks, size.docks);
     let docks = (0..suppliers)
         .map(|_| {
@@ -250,35 +246,35 @@ fn draw_drafts(
     kinds: &[Kind],
 ) -> Vec<Draft> {
     let mut drafts: Vec<Draft> = Vec::new();
-    let mut pairs = HashSet::new();
     let mut left = budget;
     while left > 0 && (drafts.len() as u32) < limit {
         let kind = rng.below(kinds.len());
         let most = draw_count(rng, wish).min(left);
-        let place = rng.below(used.len());
-        let truck = &trucks[used[place].0];
-        let supplier = rng.below(truck.suppliers.len());
         // Every item weighs at least a kilogram, so a small footprint bears few of them.
         let count = most.min(kinds[kind].length * kinds[kind].width / 10).max(1);
-        let free = count > 1 && truck.two_docks == 1 && !pairs.contains(&(place, kind));
-        let plant_docks = draw_plant_docks(rng, truck.plant_docks.len(), free);
-        if plant_docks[0] != plant_docks[1] {
-            pairs.insert((place, kind));
-        }
+        let place = rng.below(used.len());
+        let truck = &trucks[used[place].0];
+        let paired = |other: &Draft| other.used == place && other.kind == kind && other.has_two_docks();
+        let pair_allowed = count > 1 && truck.two_docks == 1 && !drafts.iter().any(paired);
+        drafts.push(draw_draft(rng, truck, place, kind, count, pair_allowed));
         left -= count;
-        drafts.push(Draft {
-            used: place,
-            supplier,
-            supplier_dock: rng.below(truck.docks[supplier].len()),
-            plant_docks,
-            kind,
-            orientation: rng.between(1, 2),
-            count,
-            x: 0,
-            y: 0,
-        });
     }
     drafts
+}
+
+fn draw_draft(rng: &mut Random, truck: &Truck, used: usize, kind: usize, count: u32, pair_allowed: bool) -> Draft {
+    let supplier = rng.below(truck.suppliers.len());
+    Draft {
+        used,
+        supplier,
+        plant_docks: draw_plant_docks(rng, truck.plant_docks.len(), pair_allowed),
+        supplier_dock: rng.below(truck.docks[supplier].len()),
+        kind,
+        orientation: rng.between(1, 2),
+        count,
+        x: 0,
+        y: 0,
+    }
 }
 
 fn draw_count(rng: &mut Random, wish: Wish) -> u32 {

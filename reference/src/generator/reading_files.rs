@@ -326,40 +326,40 @@ fn add_full_tables(cases: &mut Cases) {
         ("full-trucks-above", 256, 17, 256),
         ("full-stacks-above", 256, 16, 257),
     ] {
-        let list = |first: usize, count: usize| {
-            let numbers: Vec<String> = (first..first + count).map(|number| number.to_string()).collect();
-            numbers.join(",")
-        };
-        let mut instance = format!("transport=1\ninventory=1\nextra=1\nitems={items}\ntrucks={trucks}\n");
-        for item in 0..items {
-            instance += &format!(
-                "item={0},{0},9,0,1,{1},64,{1},0,0,9,1,1,1,1,{item}\n",
-                item + 1,
-                item + 1
-            );
-        }
-        for truck in 0..trucks {
-            instance += &format!("truck=9,9,9,9,1,0,9,0,9,{truck},9,9,9,9,9,9,9,9,9,9\n");
-            instance += &format!(
-                "products={}\nsuppliers={}\n",
-                list(100 * truck + 1, 32),
-                list(10 * truck + 1, 8)
-            );
-            for supplier in 0..8 {
-                instance += &format!("docks={}\n", list(1000 * truck + 10 * supplier + 1, 8));
-            }
-            instance += &format!("plantdocks={}\n", list(60_000 + truck, 8));
-        }
-        let mut plan = format!("stacks={stacks}\n");
-        for stack in 0..stacks {
-            plan += &format!(
-                "stack={},{},{},{stack},0,1\nload={}\n",
-                65_535 - stack,
-                stack % 16 + 1,
-                stack % 100,
-                stack % 256 + 1
-            );
-        }
-        cases.add_files(word, instance.into_bytes(), plan.into_bytes());
+        let instance = full_instance(items, trucks);
+        cases.add_files(word, instance.into_bytes(), full_plan(stacks).into_bytes());
     }
+}
+
+fn full_instance(items: usize, trucks: usize) -> String {
+    let mut instance = format!("transport=1\ninventory=1\nextra=1\nitems={items}\ntrucks={trucks}\n");
+    for item in 0..items {
+        let number = item + 1;
+        instance += &format!("item={number},{number},9,0,1,{number},64,{number},0,0,9,1,1,1,1,{item}\n");
+    }
+    for truck in 0..trucks {
+        instance += &format!("truck=9,9,9,9,1,0,9,0,9,{truck},9,9,9,9,9,9,9,9,9,9\n");
+        instance += &format!("products={}\n", counted_from(100 * truck + 1, 32));
+        instance += &format!("suppliers={}\n", counted_from(10 * truck + 1, 8));
+        for supplier in 0..8 {
+            instance += &format!("docks={}\n", counted_from(1000 * truck + 10 * supplier + 1, 8));
+        }
+        instance += &format!("plantdocks={}\n", counted_from(60_000 + truck, 8));
+    }
+    instance
+}
+
+fn counted_from(first: usize, count: usize) -> String {
+    let numbers: Vec<String> = (first..first + count).map(|number| number.to_string()).collect();
+    numbers.join(",")
+}
+
+fn full_plan(stacks: usize) -> String {
+    let mut plan = format!("stacks={stacks}\n");
+    for stack in 0..stacks {
+        let (number, truck, copy) = (65_535 - stack, stack % 16 + 1, stack % 100);
+        plan += &format!("stack={number},{truck},{copy},{stack},0,1\n");
+        plan += &format!("load={}\n", stack % 256 + 1);
+    }
+    plan
 }
