@@ -209,19 +209,23 @@ fn write_theorems(scratch: &Path, cases: &[Case], left: &[usize], order: &Order)
 }
 
 fn theorems_of(index: usize, case: &Case, order: &Order) -> String {
-    let (instance, plan) = (literal(&case.instance), literal(&case.plan));
-    let Answer {
-        number,
-        first,
-        second,
-        third,
-        cost,
-        trucks,
-    } = case.answer;
-    let record = format!(
-        "record {{ number = {number}; first = {first}; second = {second}; third = {third}; cost = {cost}; trucks = {trucks} }}"
-    );
-    let mut text = format!(
+    let mut text = answer_theorem(index, case);
+    if matches!(case.answer.number, 4 | 5 | 7 | 8) {
+        text += &line_theorem(index, case);
+    }
+    if index < order.tables {
+        text += &table_theorem(index, case);
+    }
+    text
+}
+
+/// The answer, after the two files, which the other theorems name too.
+fn answer_theorem(index: usize, case: &Case) -> String {
+    let (instance, plan, words) = (literal(&case.instance), literal(&case.plan), case.table.len());
+    // The fields of the record have the names that are printed.
+    let printed = case.answer.to_string().replace('=', " = ");
+    let fields = printed.trim_end().replace('\n', "; ");
+    format!(
         "
 abbrev instance-{index} : List ℕ
 instance-{index} = {instance}
@@ -229,34 +233,36 @@ instance-{index} = {instance}
 abbrev plan-{index} : List ℕ
 plan-{index} = {plan}
 
-pub answer-{index} : answer small {} instance-{index} plan-{index} ≡ {record}
+pub answer-{index} : answer small {words} instance-{index} plan-{index} ≡ record {{ {fields} }}
 unfolding answer
 answer-{index} = refl
-",
-        case.table.len()
-    );
-    if matches!(number, 4 | 5 | 7 | 8) {
-        let part = literal(bad_line(&case.instance, &case.plan, number, first));
-        text += &format!(
-            "
-pub line-{index} : partBytes instance-{index} plan-{index} (handedBack instance-{index} plan-{index} {number} {first}) ≡ {part}
+"
+    )
+}
+
+/// The part that is handed back for an unreadable file.
+fn line_theorem(index: usize, case: &Case) -> String {
+    let (number, line) = (case.answer.number, case.answer.first);
+    let part = literal(bad_line(&case.instance, &case.plan, number, line));
+    format!(
+        "
+pub line-{index} : partBytes instance-{index} plan-{index} (handedBack instance-{index} plan-{index} {number} {line}) ≡ {part}
 unfolding handedBack
 line-{index} = refl
 "
-        );
-    }
-    if index < order.tables {
-        let after = runs(&case.table);
-        text += &format!(
-            "
-pub table-{index} : tableAfter small (replicate {} {BEFORE}) instance-{index} plan-{index} ≡ {after}
+    )
+}
+
+/// The whole table afterwards.
+fn table_theorem(index: usize, case: &Case) -> String {
+    let (words, after) = (case.table.len(), runs(&case.table));
+    format!(
+        "
+pub table-{index} : tableAfter small (replicate {words} {BEFORE}) instance-{index} plan-{index} ≡ {after}
 unfolding tableAfter
 table-{index} = refl
-",
-            case.table.len()
-        );
-    }
-    text
+"
+    )
 }
 
 /// Bytes as a term: strings where they are plain ASCII, numbers elsewhere, long runs of one byte by their length.
