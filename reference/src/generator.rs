@@ -62,12 +62,13 @@ pub fn checking() -> Vec<Made> {
     checking::all()
 }
 
-/// An accepted load of 1 to 256 stacks, one item each: all on one used truck, or on at least one for every 16 stacks.
-pub fn sized(stacks: u32, one_truck: bool) -> Made {
-    sized::load(stacks, one_truck)
+/// An accepted load of 1 to 256 stacks, one item each: all on one used truck, or on at least one for every 16 stacks. Each draw is another
+/// load of that size.
+pub fn sized(stacks: u32, one_truck: bool, draw: u64) -> Made {
+    sized::load(stacks, one_truck, draw)
 }
 
-/// The load of that size on many used trucks, but with an item number out of range in the last line of its plan.
-pub fn unreadable_at_the_end(stacks: u32) -> Made {
-    sized::unreadable_at_the_end(stacks)
+/// The load of that size and draw on many used trucks, but with an item number out of range in the last line of its plan.
+pub fn unreadable_at_the_end(stacks: u32, draw: u64) -> Made {
+    sized::unreadable_at_the_end(stacks, draw)
 }

@@ -17,10 +17,9 @@ fn read(made: &Made) -> (Instance, Plan) {
     (instance, plan)
 }
 
-/// Accepted at a cost; everything that is counted is as many as the size asks for, with one item to a stack.
+/// Accepted; everything that is counted is as many as the size asks for, with one item to a stack.
 fn is_full_load(made: &Made, stacks: u32) {
     assert_eq!(made.answer.number, 0, "{}", made.kind);
-    assert!(made.answer.cost > 0, "{}", made.kind);
     let (instance, plan) = read(made);
     assert_eq!(plan.stacks.len() as u32, stacks, "{}", made.kind);
     assert!(plan.stacks.iter().all(|stack| stack.load.len() == 1), "{}", made.kind);
@@ -29,32 +28,41 @@ fn is_full_load(made: &Made, stacks: u32) {
     for truck in &instance.trucks {
         assert_eq!((truck.products.len(), truck.suppliers.len()), (32, 8), "{}", made.kind);
     }
-    let codes: BTreeSet<u32> = instance.items.iter().map(|item| item.code).collect();
-    assert!(codes.len() > 2, "{}: {codes:?}", made.kind);
 }
 
 #[test]
 fn one_used_truck_takes_all_stacks() {
-    for stacks in SIZES {
-        let made = sized(stacks, true);
+    for (stacks, draw) in SIZES.into_iter().zip(0..) {
+        let made = sized(stacks, true, draw);
         is_full_load(&made, stacks);
-        assert_eq!(made.answer.trucks, 1, "{stacks}");
+        assert_eq!(made.answer.trucks, 1, "{}", made.kind);
     }
 }
 
 #[test]
 fn many_used_trucks_share_the_stacks() {
-    for stacks in SIZES {
-        let made = sized(stacks, false);
+    for (stacks, draw) in SIZES.into_iter().zip(0..) {
+        let made = sized(stacks, false, draw);
         is_full_load(&made, stacks);
-        assert!(made.answer.trucks >= stacks / 16, "{stacks}: {}", made.answer.trucks);
+        assert!(made.answer.trucks >= stacks / 16, "{}", made.kind);
     }
 }
 
 #[test]
-fn a_size_always_gives_the_same_load() {
+fn the_first_draws_have_several_codes_and_a_cost() {
+    for (stacks, one_truck) in SIZES.into_iter().flat_map(|stacks| [(stacks, true), (stacks, false)]) {
+        let made = sized(stacks, one_truck, 0);
+        assert!(made.answer.cost > 0, "{}", made.kind);
+        let codes: BTreeSet<u32> = read(&made).0.items.iter().map(|item| item.code).collect();
+        assert!(codes.len() > 2, "{}: {codes:?}", made.kind);
+    }
+}
+
+#[test]
+fn a_draw_always_gives_the_same_load_and_another_draw_another() {
     for one_truck in [true, false] {
-        assert!(sized(64, one_truck) == sized(64, one_truck));
+        assert!(sized(64, one_truck, 1) == sized(64, one_truck, 1));
+        assert!(sized(64, one_truck, 1).plan != sized(64, one_truck, 2).plan);
     }
 }
 
@@ -62,7 +70,7 @@ fn a_size_always_gives_the_same_load() {
 fn other_sizes_work_too() {
     for stacks in [1, 2, 15, 16, 17, 255] {
         for one_truck in [true, false] {
-            let made = sized(stacks, one_truck);
+            let made = sized(stacks, one_truck, 0);
             assert_eq!(made.answer.number, 0, "{}", made.kind);
             assert_eq!(read(&made).1.stacks.len() as u32, stacks, "{}", made.kind);
         }
@@ -72,12 +80,12 @@ fn other_sizes_work_too() {
 #[test]
 fn the_last_line_alone_cannot_be_read() {
     for stacks in SIZES {
-        let made = unreadable_at_the_end(stacks);
+        let made = unreadable_at_the_end(stacks, 3);
         let last = 2 * stacks + 1;
         assert_eq!(made.answer, refused(8, last, 0, 0), "{stacks}");
         let line = bad_line(&made.instance, &made.plan, 8, last);
         assert_eq!(line, format!("load={}", stacks + 1).as_bytes());
-        let readable = sized(stacks, false);
+        let readable = sized(stacks, false, 3);
         assert!(made.instance == readable.instance, "{stacks}");
         let before = made.plan.len() - line.len() - 1;
         assert!(readable.plan.starts_with(&made.plan[..before]), "{stacks}");

@@ -6,13 +6,13 @@ use super::random::Random;
 use super::recipe::{accepted, drawn, LARGE};
 use super::Made;
 
-/// One that gives long identifiers, several codes and a cost at 32, 64, 128 and 256 stacks, so that these loads compare well.
+/// One whose first draw gives long identifiers, several codes and a cost at 32, 64, 128 and 256 stacks, so that these loads compare well.
 const SEED: u64 = 992;
 
 /// The largest size has 16 trucks for its 256 stacks, and a smaller one as many in proportion.
 const STACKS_FOR_EACH_TRUCK: u32 = 16;
 
-pub fn load(stacks: u32, one_truck: bool) -> Made {
+pub fn load(stacks: u32, one_truck: bool, draw: u64) -> Made {
     assert!(
         (1..=LARGE.stacks).contains(&stacks),
         "{stacks} stacks, where 1 to 256 are possible"
@@ -23,14 +23,14 @@ pub fn load(stacks: u32, one_truck: bool) -> Made {
         stacks,
         ..LARGE
     };
-    let mut rng = Random::new(SEED, 0);
+    let mut rng = Random::new(SEED, draw);
     let (word, made) = if one_truck {
         ("one-truck", accepted(&mut rng, size, Wish::full_size(true)))
     } else {
         ("spread", spread(&mut rng, size))
     };
     Made {
-        kind: format!("sized-{stacks}-{word}"),
+        kind: format!("sized-{stacks}-{word}-{draw}"),
         ..made
     }
 }
@@ -43,8 +43,8 @@ pub fn spread(rng: &mut Random, size: Size) -> Made {
     })
 }
 
-pub fn unreadable_at_the_end(stacks: u32) -> Made {
-    let made = load(stacks, false);
+pub fn unreadable_at_the_end(stacks: u32, draw: u64) -> Made {
+    let made = load(stacks, false, draw);
     let mut plan = Text::new(&made.plan, 0, 0);
     let last = plan.lines.len() - 1;
     // There are as many items as stacks.
