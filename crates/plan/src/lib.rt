@@ -26,19 +26,19 @@ use table::layout::LOAD_FIRST;
 use table::layout::STACK_FIELDS;
 use table::layout::STACK_WORDS;
 
-// Whether one of the stacks in the first rows has this number, which is the first word of its row.
+// Whether one of the stacks in the first rows has this number, which is the first word of its row. The loop is not left early: without a
+// branch the compiler compares several rows at once.
 fn is_taken(part: &[u32], rows: usize, number: u32) -> bool
     requires { ⌜ 8 * rows ≤ length (now part) ⌝ }
     ensures { λ r. ⌜ r ≡ listed number (rowNumbers rows (now (part .entry))) ⌝ }
 {
-    let mut k = rows;
-    while 0 < k {
-        k -= 1;
-        if part[STACK_WORDS * k] == number {
-            return true;
-        }
+    let mut taken = false;
+    let mut k: usize = 0;
+    while k < rows {
+        taken = (number == part[STACK_WORDS * k]) | taken;
+        k += 1;
     }
-    false
+    taken
 }
 
 // Whether the fields of a stack's line are in range for so many trucks.
