@@ -1,6 +1,6 @@
 -- The searches: an axle at a departure of numbers that were read, and the places of one used truck.
 use mathlib.Core.Path.{_≡_, refl, sym, ap, _∙_}
-use mathlib.Core.Bool.{Bool, not, _&&_}
+use mathlib.Core.Bool.{Bool, true, false, not, _&&_}
 use mathlib.Core.List.{List, flatMap, append-nil}
 use Prim.Native.Nat.{ℕ, _+_, _-_, _≤_, _<_}
 use native.Mathlib.Omega.{arith}
@@ -39,6 +39,15 @@ module _ (i : Instance) (t : Truck) (on : List Stack) {h : ℤ} (fits : SFits w6
       → rearHolds (toZ w64 (ofZ w64 h)) ejhr weight em emmr ≡ rearAxleHolds i t on
   unfolding rearHolds rearAxleHolds
   rear-is e1 e2 e3 e4 = rw (stored fits eh, e1, e2, e3, e4) refl
+
+-- an axle that holds is not exceeded, and one that does not is where the departure counts
+pub not-exceeded : (counted : Bool) {holds : Bool} → true ≡ holds → false ≡ counted && not holds
+not-exceeded true e = rw (← e) refl
+not-exceeded false e = refl
+
+pub exceeded-if : (counted : Bool) {holds : Bool} → false ≡ holds → counted ≡ counted && not holds
+exceeded-if true e = rw (← e) refl
+exceeded-if false e = refl
 
 -- ---- stacks that are all on one used truck
 -- the place of a departure that counts and at which a rule is broken
@@ -94,11 +103,11 @@ module _ (i : Instance) {p : List Stack} {start end : ℕ} (h : OneTruck p start
     unfolding withinLoadLimit
     overload-is few ew el = rw (truck-one i withinLoadLimit usedAt on some-on (block-used h), ew, el, all-aboard i on few, et, ec) refl
 
-    pub departure-is : (kept : Instance → Truck → List Stack → Bool) (k : ℕ) {b holds : Bool} → b ≡ counts (aboard i on 1 k)
-        → holds ≡ kept i (truckNumbered i truck) (aboard i on 1 k)
-        → lowestIn (onlyIf (b && not holds) (place truck copy k)) ≡ lowestIn (departureAt kept i usedAt on k)
+    pub departure-is : (kept : Instance → Truck → List Stack → Bool) (k : ℕ) {exceeded : Bool}
+        → exceeded ≡ counts (aboard i on 1 k) && not (kept i (truckNumbered i truck) (aboard i on 1 k))
+        → lowestIn (onlyIf exceeded (place truck copy k)) ≡ lowestIn (departureAt kept i usedAt on k)
     unfolding departureAt
-    departure-is kept k eb eh = rw (eb, eh, et, ec) refl
+    departure-is kept k e = rw (e, et, ec) refl
 
   pub departures-length : {truck : ℕ} {list : List ℕ} → truck ≡ usedAt .truck → list ≡ truckNumbered i truck .suppliers
       → length list ≡ length (departures i usedAt)

@@ -1,7 +1,7 @@
 // The rules on a used truck: 26 overload, 27 middle axle, 28 rear axle. The stacks of a used truck are visited together, from place `start`
 // up to `end`. Levers are signed: a stack whose middle lies behind the rear axle counts negative. Nothing is divided.
 ghost use mathlib.Core.Path.{_≡_};
-ghost use mathlib.Core.Bool.{cond};
+ghost use mathlib.Core.Bool.{cond, not, _&&_};
 ghost use Prim.Native.Nat.{_≤_, _<_};
 ghost use lib.IntN.{pos};
 ghost use Rattle.meaning.specs.Model.{truckNumbered};
@@ -231,6 +231,18 @@ fn axle_holds(axle: Axle, t: &[u32], limits: Limits, rows: &[u32], cargo: Cargo)
     }
 }
 
+// Whether an axle does not hold at a departure that counts. Most axles hold, so the stacks are counted only where one does not.
+fn is_exceeded(axle: Axle, t: &[u32], limits: Limits, rows: &[u32], cargo: Cargo) -> bool
+    requires { ⌜ CargoIn limits (now t) (now rows) cargo ⌝ }
+    ensures { λ r. ⌜ r ≡ (counts (cargoStacks limits (now (t .entry)) cargo)
+        && not (ofCargo (axleTest axle) limits (now (t .entry)) cargo)) ⌝ }
+{
+    if axle_holds(axle, t, limits, rows, cargo) {
+        return false;
+    }
+    departure_counts(t, limits, rows, cargo)
+}
+
 // ---- the searches
 
 // The lowest departure at which an axle does not hold, of those that count. Every departure is asked, not the last alone.
@@ -259,9 +271,8 @@ pub fn lowest_departure(
             first: 1,
             last: departure,
         };
-        let counts = departure_counts(t, limits, rows, cargo);
-        let holds = axle_holds(axle, t, limits, rows, cargo);
-        found = lower_of(place_if(counts & !holds, truck, copy, departure), found);
+        let exceeded = is_exceeded(axle, t, limits, rows, cargo);
+        found = lower_of(place_if(exceeded, truck, copy, departure), found);
         departure -= 1;
     }
     found

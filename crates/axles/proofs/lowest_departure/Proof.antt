@@ -40,11 +40,8 @@ loop-holds c =
     let i = instanceIn (s .args .limits) (s .args .t .now) in
     down-start (departures-length i (s .pre .1) (truck .truck-at .ensures .0) (c .suppliers .ensures .0))
 
-departure-counts-requires : tie.Need-departure-counts-requires Inv-loop μ-loop
-departure-counts-requires c κs = search needs
-
-axle-holds-requires : tie.Need-axle-holds-requires Inv-loop μ-loop
-axle-holds-requires c κs = search needs
+is-exceeded-requires : tie.Need-is-exceeded-requires Inv-loop μ-loop
+is-exceeded-requires c κs = search needs
 
 place-if-requires : tie.Need-place-if-requires Inv-loop μ-loop
 place-if-requires c κs = search needs
@@ -61,17 +58,17 @@ loop-less c = search needs
 loop-again : tie.Need-loop-again Inv-loop μ-loop
 loop-again c =
     let place = c .before in
-    let holds = place .before in
-    let counts = holds .before in
-    let l = counts .before .before in
+    let exceeded = place .before in
+    let l = exceeded .before .before in
     let copy = l .before .before in
     let truck = copy .before in
     let s = truck .before .before .before in
     let i = instanceIn (s .args .limits) (s .args .t .now) in
-    down-more 0 (l .loop .inv) (counts .before .loop-test .taken) (departure-at i (s .pre .1) (counts .before .loop-test .taken) (l .loop .inv .upto))
+    let more = exceeded .before .loop-test .taken in
+    down-more 0 (l .loop .inv) more (departure-at i (s .pre .1) more (l .loop .inv .upto))
     (place .place-if .ensures
     ∙ departure-is i (s .pre .1) (truck .truck-at .ensures .0) (copy .row-word .ensures .0) (axleTest (s .args .axle)) (l .loop .departure)
-    (counts .departure-counts .ensures) (holds .axle-holds .ensures))
+    (exceeded .is-exceeded .ensures))
     (c .lower-of .ensures)
 
 returns : tie.Need-returns Inv-loop μ-loop
@@ -92,8 +89,7 @@ lowest-departure-spec =
     suppliers-requires
     cast-departure
     loop-holds
-    departure-counts-requires
-    axle-holds-requires
+    is-exceeded-requires
     place-if-requires
     lower-of-requires
     sub-departure
