@@ -2,34 +2,34 @@
 //! again and is not cleared before a call; what a call clears or allocates for itself is a part of its time.
 
 use kaqlluwe::TABLE_WORDS;
-use reference::generator;
+use reference::generator::{self, Made};
 use std::hint::black_box;
 use std::time::{Duration, Instant};
 
-/// A measurement is the best of so many rounds. In each round both checkers run, one after the other.
-const ROUNDS: usize = 40;
-/// Each checker runs for about so long in a round.
-const ROUND: Duration = Duration::from_millis(10);
+/// So many loads of each kind are measured, and the mean of their times is told.
+const LOADS: u64 = 6;
+/// The time of a load is the best of so many rounds. In each round both checkers run, one after the other.
+const ROUNDS: usize = 60;
+/// Each checker runs for about so long in a round, on the same load again and again.
+const ROUND: Duration = Duration::from_millis(4);
 /// At full size the check may take at most this part of the reference's time, and elsewhere all of it.
 const FULL_SIZE_BAR: f64 = 0.5;
 const BAR: f64 = 1.0;
 
-struct Files {
-    instance: Vec<u8>,
-    plan: Vec<u8>,
-    /// The verdict that both have to answer.
-    number: u32,
-}
-
 /// Seconds for one check of each.
+#[derive(Clone, Copy)]
 struct Times {
     check: f64,
     reference: f64,
 }
 
 impl Times {
-    fn ratio(&self) -> f64 {
+    fn ratio(self) -> f64 {
         self.check / self.reference
+    }
+
+    fn in_microseconds(self) -> String {
+        format!("{:.1} | {:.1}", self.check * 1e6, self.reference * 1e6)
     }
 }
 
@@ -41,13 +41,14 @@ fn seconds_per_call(calls: u32, mut call: impl FnMut() -> u32) -> f64 {
     start.elapsed().as_secs_f64() / f64::from(calls)
 }
 
-fn measured(files: &Files) -> Times {
+/// The best times for one load.
+fn measured(load: &Made) -> Times {
     let mut table = vec![0; TABLE_WORDS];
     let mut other_table = vec![0; TABLE_WORDS];
-    let (instance, plan) = (black_box(&files.instance[..]), black_box(&files.plan[..]));
+    let (instance, plan) = (black_box(&load.instance[..]), black_box(&load.plan[..]));
     let mut check = || kaqlluwe::check(instance, plan, &mut table).number;
     let mut reference = || reference::check(instance, plan, &mut other_table).number;
-    assert_eq!((check(), reference()), (files.number, files.number));
+    assert_eq!((check(), reference()), (load.answer.number, load.answer.number));
 
     let calls = |once: f64| (ROUND.as_secs_f64() / once).ceil() as u32;
     let check_calls = calls(seconds_per_call(20, &mut check));
@@ -63,47 +64,45 @@ fn measured(files: &Files) -> Times {
     best
 }
 
-fn files_of(made: generator::Made) -> Files {
-    Files {
-        instance: made.instance,
-        plan: made.plan,
-        number: made.answer.number,
+/// The mean over the loads of one kind.
+fn mean(draw: impl Fn(u64) -> Made) -> Times {
+    let times: Vec<Times> = (0..LOADS).map(|index| measured(&draw(index))).collect();
+    let mean_of = |part: fn(&Times) -> f64| times.iter().map(part).sum::<f64>() / times.len() as f64;
+    Times {
+        check: mean_of(|times| times.check),
+        reference: mean_of(|times| times.reference),
     }
 }
 
-fn printed_load() -> Files {
-    Files {
-        instance: include_bytes!("../../../examples/printed/instance.txt").to_vec(),
-        plan: include_bytes!("../../../examples/printed/plan.txt").to_vec(),
-        number: 0,
-    }
-}
-
-/// The four kinds of load, each with the bar that it is held to. Returns whether all are kept.
+/// The kinds of load, each with the bar that it is held to. Returns whether all are kept.
 fn print_kinds() -> bool {
-    let spread = files_of(generator::sized(256, false));
-    let together = files_of(generator::sized(256, true));
-    let unreadable = files_of(generator::unreadable_at_the_end(256));
     let kinds = [
-        ("small: the printed load", printed_load(), BAR),
-        ("full size, spread over trucks", spread, FULL_SIZE_BAR),
-        ("full size, one used truck", together, FULL_SIZE_BAR),
-        ("full size, unreadable at the last line", unreadable, FULL_SIZE_BAR),
+        ("small: 8 stacks", mean(|draw| generator::sized(8, false, draw)), BAR),
+        (
+            "full size, spread over trucks",
+            mean(|draw| generator::sized(256, false, draw)),
+            FULL_SIZE_BAR,
+        ),
+        (
+            "full size, one used truck",
+            mean(|draw| generator::sized(256, true, draw)),
+            FULL_SIZE_BAR,
+        ),
+        (
+            "full size, unreadable at the last line",
+            mean(|draw| generator::unreadable_at_the_end(256, draw)),
+            BAR,
+        ),
     ];
     println!("| Load | check, µs | reference, µs | ratio | bar |");
     println!("|---|---|---|---|---|");
     let mut kept = true;
-    for (kind, files, bar) in kinds {
-        let times = measured(&files);
+    for (kind, times, bar) in kinds {
         let ratio = times.ratio();
-        println!("| {kind} | {} | {ratio:.2} | {bar:.2} |", in_microseconds(&times));
+        println!("| {kind} | {} | {ratio:.2} | {bar:.2} |", times.in_microseconds());
         kept &= ratio <= bar;
     }
     kept
-}
-
-fn in_microseconds(times: &Times) -> String {
-    format!("{:.1} | {:.1}", times.check * 1e6, times.reference * 1e6)
 }
 
 /// How time grows with the stacks: each row beside the one of the fewest.
@@ -112,17 +111,23 @@ fn print_growth(spread: &str, one_truck: bool) {
     println!("|---|---|---|---|---|---|");
     let mut fewest: Option<Times> = None;
     for stacks in [32, 64, 128, 256] {
-        let times = measured(&files_of(generator::sized(stacks, one_truck)));
-        let (ratio, columns) = (times.ratio(), in_microseconds(&times));
-        let (check, reference) = (times.check, times.reference);
-        let first = fewest.get_or_insert(times);
-        let growth = format!("{:.1} | {:.1}", check / first.check, reference / first.reference);
-        println!("| {stacks} | {columns} | {ratio:.2} | {growth} |");
+        let times = mean(|draw| generator::sized(stacks, one_truck, draw));
+        let first = *fewest.get_or_insert(times);
+        let growth = format!(
+            "{:.1} | {:.1}",
+            times.check / first.check,
+            times.reference / first.reference
+        );
+        println!(
+            "| {stacks} | {} | {:.2} | {growth} |",
+            times.in_microseconds(),
+            times.ratio()
+        );
     }
 }
 
 fn main() {
-    println!("Best of {ROUNDS} rounds, tables not cleared before a call.\n");
+    println!("Mean over {LOADS} loads, each the best of {ROUNDS} rounds. Tables are not cleared before a call.\n");
     let kept = print_kinds();
     print_growth("spread over trucks", false);
     print_growth("one used truck", true);
