@@ -4,15 +4,17 @@ use mathlib.Core.Logic.{_↔_}
 use mathlib.Core.Bool.{Bool, true, false, cond}
 use mathlib.Core.Option.{none, some}
 use mathlib.Core.List.{List, [], _∷_}
-use Prim.Native.Nat.{ℕ, suc, _+_, _-_, _*_, _≤_, _<_}
+use Prim.Native.Nat.{ℕ, zero, suc, _+_, _-_, _*_, _≤_, _<_}
+use native.Mathlib.Nat.{add-zero}
 use native.Mathlib.Omega.{arith}
-use borrow.Author.Tests.{eq-eqb, ne-eqb}
+use borrow.Author.Tests.{eqb-false, eq-eqb, ne-eqb}
 use lib.Dec.{eqb, ltb}
 use lib.ListN.{length, getD, take, drop, length-drop, drop-of-length-le}
 use lib.Seq.{take-all}
 use Rattle.meaning.specs.Text.{countBefore, valueAfter, isDigit, decimalFrom}
-use Rattle.meaning.proofs.Tests.{same-test, lt-reads, iff-trans, iff-sym}
+use Rattle.meaning.proofs.Tests.{or-false, same-test, lt-reads, iff-trans, iff-sym}
 use Rattle.meaning.proofs.Lists.{drop-next}
+use Rattle.text.specs.Words.{oneOf}
 
 -- all that is left of some bytes
 pub take-rest : (bs : List ℕ) (i : ℕ) → take (length bs - i) (drop i bs) ≡ drop i bs
@@ -27,6 +29,16 @@ count-at c bs i h = ((λ e. rw (drop-next bs i 0) (simp (eq-eqb _ _ e))), (λ f.
 pub count-end : (c : ℕ) (bs : List ℕ) (i : ℕ) → length bs ≤ i → countBefore c (drop i bs) ≡ 0
 unfolding countBefore
 count-end c bs i h = rw (drop-of-length-le bs h)
+
+-- where none of n bytes is that one, the count goes on behind them
+pub count-past : (c : ℕ) (bs : List ℕ) (i n : ℕ) → i + n ≤ length bs → oneOf c bs i n ≡ false
+    → countBefore c (drop i bs) ≡ n + countBefore c (drop (i + n) bs)
+count-past c bs i zero h e = simp add-zero (omega arith)
+count-past c bs i (suc zero) h e = omega (arith, count-at c bs i (omega arith) .1 (eqb-false _ _ e))
+count-past c bs i (suc (suc n)) h e =
+    let both = or-false _ _ .0 e in
+    let next : i + suc n + 1 ≡ i + suc (suc n) = omega arith in
+    omega (arith, count-past c bs i (suc n) (omega arith) (both .0), rw next at (count-at c bs (i + suc n) (omega arith) .1 (eqb-false _ _ (both .1))))
 
 pub count-within : (c : ℕ) (bs : List ℕ) → countBefore c bs ≤ length bs
 unfolding countBefore

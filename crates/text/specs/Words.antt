@@ -1,10 +1,10 @@
 -- What the functions of this crate answer and store, in the words of the meaning.
-use mathlib.Core.Bool.{cond}
+use mathlib.Core.Bool.{Bool, false, cond, _||_}
 use mathlib.Core.Option.{Option, none, some}
 use mathlib.Core.List.{List, [], _∷_}
 use Prim.Native.Nat.{ℕ, zero, suc, _+_, min}
-use lib.Dec.{ltb}
-use lib.ListN.{length, take}
+use lib.Dec.{eqb, ltb}
+use lib.ListN.{length, getD, take}
 use Rattle.meaning.specs.Lists.{between}
 use Rattle.meaning.specs.Text.{number, commaParts, numbersOf, valueAfter, countBefore}
 use Rattle.meaning.specs.Table.{largestWord}
@@ -20,6 +20,12 @@ abbrev pub word : ℕ → ℕ
 word n = min n largestWord
 
 -- ---- the answers
+-- whether the byte c is one of the n bytes from the place i on; the first has a case of its own, so that its place is i itself, as in the source
+abbrev pub oneOf : ℕ → List ℕ → ℕ → ℕ → Bool
+oneOf c bs i zero = false
+oneOf c bs i (suc zero) = eqb (getD bs i 0) c
+oneOf c bs i (suc (suc n)) = oneOf c bs i (suc n) || eqb (getD bs (i + suc n) 0) c
+
 -- of some bytes that are a number, or none
 unfoldable pub parsedNumber : Option ℕ → Parsed
 parsedNumber none = Malformed

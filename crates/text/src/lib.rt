@@ -2,11 +2,11 @@
 ghost use mathlib.Core.Path.{_≡_};
 ghost use mathlib.Core.Bool.{cond};
 ghost use mathlib.Core.Option.{none, some};
-ghost use Prim.Native.Nat.{ℕ, _+_};
+ghost use Prim.Native.Nat.{ℕ, _+_, _≤_};
 ghost use lib.ListN.{length, drop};
 ghost use lib.Seq.{sets};
 ghost use Rattle.meaning.specs.Text.{isDigit, countBefore, number, numbers, commaParts, valueAfter};
-ghost use Rattle.text.specs.Words.{word, parsedNumber, parsedNumbers, leading, parsedLine, lineWords};
+ghost use Rattle.text.specs.Words.{word, parsedNumber, parsedNumbers, leading, parsedLine, lineWords, oneOf};
 
 // The index of the first such byte from `from` on; the length where there is none, and `from` where that is past the end.
 pub fn first_byte(bytes: &[u8], from: usize, byte: u8) -> usize
@@ -20,6 +20,32 @@ pub fn first_byte(bytes: &[u8], from: usize, byte: u8) -> usize
         i += 1;
     }
     i
+}
+
+// Whether one of the eight bytes from `at` on ends a line. There is no branch between them, so that the compiler makes one comparison of all eight.
+fn ends_in_eight(bytes: &[u8], at: usize) -> bool
+    requires { ⌜ at + 8 ≤ length (now bytes) ⌝ }
+    ensures { λ r. ⌜ r ≡ oneOf 10 (now (bytes .entry)) at 8 ⌝ }
+{
+    (bytes[at] == 10)
+        | (bytes[at + 1] == 10)
+        | (bytes[at + 2] == 10)
+        | (bytes[at + 3] == 10)
+        | (bytes[at + 4] == 10)
+        | (bytes[at + 5] == 10)
+        | (bytes[at + 6] == 10)
+        | (bytes[at + 7] == 10)
+}
+
+// The index of the first end of a line from `from` on, as `first_byte` has it. Most lines are long, so eight bytes are passed at a time.
+pub fn line_end(bytes: &[u8], from: usize) -> usize
+    ensures { λ r. ⌜ r ≡ from + countBefore 10 (drop from (now (bytes .entry))) ⌝ }
+{
+    let mut at = from;
+    while at < bytes.len() && 8 <= bytes.len() - at && !ends_in_eight(bytes, at) {
+        at += 8;
+    }
+    first_byte(bytes, at, 10)
 }
 
 // Whether the line begins with the key, byte by byte.
@@ -157,7 +183,7 @@ pub fn parse_line(bytes: &[u8], at: usize, key: &[u8], least: usize, out: &mut [
     ensures words { λ _. ⌜ now (out .exit) ≡ sets (now (out .entry)) 0
         (lineWords (now (key .entry)) (length (now (out .entry))) (drop at (now (bytes .entry)))) ⌝ }
 {
-    let end = first_byte(bytes, at, 10);
+    let end = line_end(bytes, at);
     if bytes.len() <= end {
         return ParsedLine::WrongForm;
     }

@@ -9,14 +9,14 @@ use Rattle.text.proofs.Lines.{LinePromise, unended, other-key, keyed-li
 use Rattle.text.proofs.parse_line.Statement.{statement}
 use Rattle.text.proofs.parse_line.Tie as tie
 
-first-byte-requires : tie.Need-first-byte-requires
-first-byte-requires c κs = search needs
+line-end-requires : tie.Need-line-end-requires
+line-end-requires c κs = search needs
 
 returns : tie.Need-returns
 returns c =
     let f = c .before in
     let a = f .before .before .before .before .args in
-    unended (a .key .now) (a .least) (a .out .now) (a .bytes .now) (a .at) (f .first-byte .result) (f .first-byte .ensures) (c .if1 .taken)
+    unended (a .key .now) (a .least) (a .out .now) (a .bytes .now) (a .at) (f .line-end .result) (f .line-end .ensures) (c .if1 .taken)
 
 sub-line : tie.Need-sub-line
 sub-line c = search needs
@@ -35,7 +35,7 @@ returns-2 c =
     let k = c .before in
     let f = k .before .before .before in
     let a = f .before .before .before .before .args in
-    other-key (a .key .now) (a .least) (a .out .now) (a .bytes .now) (a .at) (f .first-byte .result) (f .first-byte .ensures) (omega arith)
+    other-key (a .key .now) (a .least) (a .out .now) (a .bytes .now) (a .at) (f .line-end .result) (f .line-end .ensures) (omega arith)
     (k .begins-with .result) (k .begins-with .ensures) (not-true _ (c .if2 .taken))
 
 rest-of-requires : tie.Need-rest-of-requires
@@ -45,16 +45,16 @@ parse-numbers-requires : tie.Need-parse-numbers-requires
 parse-numbers-requires c κs = search needs
 
 -- the numbers were read from the value
-abbrev found : tie.After-parse-numbers → tie.After-first-byte
+abbrev found : tie.After-parse-numbers → tie.After-line-end
 found p = p .before .before .before .before .before .before .before
 
 read : (p : tie.After-parse-numbers) (r : ParsedNumbers) → p .parse-numbers .result ≡ r
     → let a = found p .before .before .before .before .args in
-    LinePromise (a .key .now) (a .least) (a .out .now) (a .bytes .now) (a .at) (p .parse-numbers .last .1 .1 .0) (lineAnswer (found p .first-byte .result) r)
+    LinePromise (a .key .now) (a .least) (a .out .now) (a .bytes .now) (a .at) (p .parse-numbers .last .1 .1 .0) (lineAnswer (found p .line-end .result) r)
 read p r e =
     let k = p .before .before .before in
     let a = found p .before .before .before .before .args in
-    keyed-line (a .key .now) (a .least) (a .out .now) (a .bytes .now) (a .at) (found p .first-byte .result) (found p .first-byte .ensures) (omega arith)
+    keyed-line (a .key .now) (a .least) (a .out .now) (a .bytes .now) (a .at) (found p .line-end .result) (found p .line-end .ensures) (omega arith)
     (k .before .begins-with .result) (k .before .begins-with .ensures) (not-false _ (k .if2 .left))
     _ (p .parse-numbers .last .1 .1 .0) (p .before .before .rest-of .ensures) r (sym e ∙ p .parse-numbers .ensures .0) (p .parse-numbers .ensures .1)
 
@@ -85,7 +85,7 @@ pub parse-line-spec : {M : Type 1} → statement M
 parse-line-spec =
     tie.close
     (tie.spec
-    first-byte-requires
+    line-end-requires
     returns
     sub-line
     part-line-start
