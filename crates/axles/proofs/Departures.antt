@@ -1,12 +1,13 @@
 -- The searches: an axle at a departure of numbers that were read, and the places of one used truck.
-use mathlib.Core.Path.{_≡_, refl, sym, ap, _∙_}
-use mathlib.Core.Bool.{Bool, true, false, not, _&&_}
-use mathlib.Core.List.{List, flatMap, append-nil}
+use mathlib.Core.Path.{_≡_, refl, sym, ap, ap₂, _∙_}
+use mathlib.Core.Bool.{Bool, true, false, not, _&&_, and-false}
+use mathlib.Core.List.{List, [], _++_, flatMap, append-nil}
 use Prim.Native.Nat.{ℕ, _+_, _-_, _≤_, _<_}
 use native.Mathlib.Omega.{arith}
+use borrow.Author.Tests.{not-false}
 use lib.Dec.{leb}
 use lib.IntN.{ℤ}
-use lib.ListN.{length, getD}
+use lib.ListN.{length, getD, drop, drop-of-length-le}
 use mir.Syntax.{w64}
 use mir.Val.{SFits, toZ, ofZ}
 use Rattle.meaning.specs.declared.Limits.{Limits}
@@ -17,15 +18,17 @@ use Rattle.meaning.specs.Model.{Instance, Truck, Stack, truckNumbered, TMm, CM,
 use Rattle.meaning.specs.Measures.{UsedTruck, usedBy, supplierOrder, stacksAt, departures, weightOn, H}
 use Rattle.meaning.specs.Rules.{truckPlaces, departurePlaces, counts, withinLoadLimit, middleAxleHolds, rearAxleHolds}
 use Rattle.meaning.specs.Table.{instanceIn, stacksIn}
-use Rattle.meaning.proofs.Tests.{between-reads}
-use Rattle.meaning.proofs.Lists.{every-map, every-reads, in-at, length-upFrom, upFrom-at}
+use Rattle.meaning.proofs.Tests.{and-reads, between-reads}
+use Rattle.meaning.proofs.Lists.{every-map, every-reads, in-at, length-upFrom, upFrom-at, drop-back}
 use Rattle.table.specs.Filled.{Filled, noStack}
 use Rattle.search.specs.Lowest.{lowestIn}
 use Rattle.visits.specs.Visits.{visitOrder, visitAt, block, OneTruck}
 use Rattle.visits.proofs.Order.{order-within}
 use Rattle.visits.proofs.UsedTrucks.{block-length, block-at, block-used, filter-all, used-one, all-on}
 use Rattle.visits.proofs.RowMost.{row-most}
-use Rattle.axles.specs.Aboard.{aboard, middleHolds, rearHolds}
+use Rattle.axles.specs.declared.Axle.{Axle}
+use Rattle.axles.specs.declared.Axle.the-variants.{Middle, Rear}
+use Rattle.axles.specs.Aboard.{aboard, axleTest, middleHolds, rearHolds}
 use Rattle.axles.proofs.Signed.{stored}
 
 -- ---- an axle at a departure
@@ -120,3 +123,42 @@ module _ (i : Instance) {p : List Stack} {start end : ℕ} (h : OneTruck p start
 
   pub departures-are : (kept : Instance → Truck → List Stack → Bool) → departurePlaces kept i on ≡ flatMap (departureAt kept i usedAt on) (departures i usedAt)
   departures-are kept = departures-one i kept usedAt on some-on (block-used h)
+
+-- ---- both axles hold: the departures after the current one break no rule
+pub record DownKept (i : Instance) (u : UsedTruck) (on : List Stack) (departure : ℕ) : Type 0 where
+  pub upto : departure ≤ length (departures i u)
+  pub is : (axle : Axle) → flatMap (departureAt (axleTest axle) i u on) (drop departure (departures i u)) ≡ []
+
+-- where an axle holds, no place is broken
+held-at : (kept : Instance → Truck → List Stack → Bool) (i : Instance) (u : UsedTruck) (p : List Stack) (k : ℕ)
+    → kept i (truckNumbered i (u .truck)) (aboard i p 1 k) ≡ true → departureAt kept i u p k ≡ []
+unfolding departureAt
+held-at kept i u p k e = rw (e, and-false (counts (aboard i p 1 k))) refl
+
+-- both axles of a truck hold, as the code tests it
+pub both-held : (i : Instance) (on : List Stack) {truck used : ℕ} {middle rear : Bool} → truck ≡ used → not (middle && rear) ≡ false
+    → middle ≡ middleAxleHolds i (truckNumbered i truck) on → rear ≡ rearAxleHolds i (truckNumbered i truck) on
+    → (axle : Axle) → axleTest axle i (truckNumbered i used) on ≡ true
+both-held i on {truck} {used} {middle} {rear} et e em er axle =
+    let both = and-reads middle rear .0 (not-false (middle && rear) e) in
+    rw (← et) (elim axle [ Middle ↦ sym em ∙ both .0 | Rear ↦ sym er ∙ both .1 ])
+
+module _ {i : Instance} {u : UsedTruck} {on : List Stack} where
+  pub kept-start : {departure : ℕ} → departure ≡ length (departures i u) → DownKept i u on departure
+  unfolding flatMap
+  kept-start {departure} e =
+      let h : length (departures i u) ≤ departure = omega arith in
+      record { upto = omega arith; is = λ axle. rw (drop-of-length-le (departures i u) h) refl }
+
+  -- one departure more
+  pub kept-more : {k : ℕ} → DownKept i u on k → 0 < k → k ≡ getD (departures i u) (k - 1) 0
+      → ((axle : Axle) → axleTest axle i (truckNumbered i (u .truck)) (aboard i on 1 k) ≡ true) → DownKept i u on (k - 1)
+  unfolding flatMap
+  kept-more {k} h some e held = record {
+    upto = omega (arith, h .upto);
+    is = λ axle.
+        rw (drop-back (departures i u) k 0 some (h .upto), ← e) (ap₂ _++_ (held-at (axleTest axle) i u on k (held axle)) (h .is axle));
+  }
+
+  pub kept-end : {k : ℕ} → DownKept i u on k → k ≤ 0 → (axle : Axle) → flatMap (departureAt (axleTest axle) i u on) (departures i u) ≡ []
+  kept-end {k} h none axle = let e : k ≡ 0 = omega arith in rw e at (h .is axle)

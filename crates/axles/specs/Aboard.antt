@@ -1,6 +1,7 @@
 -- What is on a used truck at a departure, and the two axles.
+use mathlib.Core.Path.{_≡_}
 use mathlib.Core.Bool.{Bool}
-use mathlib.Core.List.{List}
+use mathlib.Core.List.{List, []}
 use Prim.Native.Nat.{ℕ, _+_, _*_, _≤_}
 use lib.IntN.{ℤ, pos, _+ℤ_, _-ℤ_, _*ℤ_}
 use lib.ListN.{length}
@@ -9,7 +10,7 @@ use Rattle.meaning.specs.declared.Limits.{Limits}
 use Rattle.meaning.specs.Lists.{filter, between, orderFrom, sumℤ}
 use Rattle.meaning.specs.Model.{Instance, Truck, Stack, EJeh, EJhr, truckNumbered}
 use Rattle.meaning.specs.Measures.{supplierOrder, lever, H}
-use Rattle.meaning.specs.Rules.{middleAxleHolds, rearAxleHolds}
+use Rattle.meaning.specs.Rules.{departurePlaces, middleAxleHolds, rearAxleHolds}
 use Rattle.meaning.specs.Table.{instanceIn, stacksIn}
 use Rattle.table.specs.Filled.{TruckNumber}
 use Rattle.visits.specs.Visits.{visitAt, block, HoldsRows}
@@ -55,6 +56,10 @@ ofCargo f m t c = f (instanceIn m t) (cargoTruck m t c) (cargoStacks m t c)
 abbrev pub axleTest : Axle → Instance → Truck → List Stack → Bool
 axleTest Middle i t on = middleAxleHolds i t on
 axleTest Rear i t on = rearAxleHolds i t on
+
+-- no departure breaks a rule on an axle
+pub record AxlesKept (i : Instance) (p : List Stack) : Type 0 where
+  pub each : (axle : Axle) → departurePlaces (axleTest axle) i p ≡ []
 
 -- "2A", with "A = EJeh + EJhr"
 abbrev pub twiceA : Truck → ℕ

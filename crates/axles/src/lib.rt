@@ -1,7 +1,7 @@
 // The rules on a used truck: 26 overload, 27 middle axle, 28 rear axle. The stacks of a used truck are visited together, from place `start`
 // up to `end`. Levers are signed: a stack whose middle lies behind the rear axle counts negative. Nothing is divided.
 ghost use mathlib.Core.Path.{_≡_};
-ghost use mathlib.Core.Bool.{cond, not, _&&_};
+ghost use mathlib.Core.Bool.{true, cond, not, _&&_};
 ghost use Prim.Native.Nat.{_≤_, _<_};
 ghost use lib.IntN.{pos};
 ghost use Rattle.meaning.specs.Model.{truckNumbered};
@@ -12,7 +12,7 @@ ghost use Rattle.table.specs.Filled.{Filled, TruckNumber};
 ghost use Rattle.search.specs.Lowest.{lowestIn};
 ghost use Rattle.visits.specs.Visits.{visitAt, block, HoldsRows, OneTruck};
 ghost use Rattle.axles.specs.Aboard.{CargoIn, cargoTruck, isAboard, leverAt, cargoStacks, ofCargo};
-ghost use Rattle.axles.specs.Aboard.{axleTest, twiceA, leverBy, leversOf, momentOf, middleHolds, rearHolds, Moderate};
+ghost use Rattle.axles.specs.Aboard.{axleTest, AxlesKept, twiceA, leverBy, leversOf, momentOf, middleHolds, rearHolds, Moderate};
 use meaning::Limits;
 use search::Found;
 use search::lower_of;
@@ -185,12 +185,21 @@ fn rear_holds(h: i64, ejhr: u32, weight: u64, em: u32, emmr: u32) -> bool
     twice * ((weight as i64) + (em as i64)) - h <= most
 }
 
-// 27 middle axle, W2: what tractor, trailer and load bring to it, by their levers, is within its limit.
-fn middle_axle_holds(t: &[u32], limits: Limits, rows: &[u32], cargo: Cargo) -> bool
+// Whether each axle holds.
+struct AxlesHeld {
+    middle: bool, // 27
+    rear: bool, // 28
+}
+
+// W2: what tractor, trailer and load bring to the middle axle, by their levers, is within its limit; so is, on the rear axle, what the
+// harness does not bear of trailer and load.
+fn axles_under(t: &[u32], limits: Limits, rows: &[u32], cargo: Cargo) -> AxlesHeld
     requires { ⌜ CargoIn limits (now t) (now rows) cargo ⌝ }
-    ensures { λ r. ⌜ r ≡ ofCargo middleAxleHolds limits (now (t .entry)) cargo ⌝ }
+    ensures { λ r. ⌜ (r .middle ≡ ofCargo middleAxleHolds limits (now (t .entry)) cargo)
+        × (r .rear ≡ ofCargo rearAxleHolds limits (now (t .entry)) cargo) ⌝ }
 {
     let h = moment(t, limits, rows, cargo);
+    let weight = weight_aboard(t, limits, rows, cargo);
     let truck = cargo.truck;
     let ejhr = truck_field(t, limits, truck, EJHR);
     let cm = truck_field(t, limits, truck, CM);
@@ -198,21 +207,12 @@ fn middle_axle_holds(t: &[u32], limits: Limits, rows: &[u32], cargo: Cargo) -> b
     let cjfh = truck_field(t, limits, truck, CJFH);
     let cjfm = truck_field(t, limits, truck, CJFM);
     let emmm = truck_field(t, limits, truck, EMMM);
-    middle_holds(h, ejhr, cm, cjfc, cjfh, cjfm, emmm)
-}
-
-// 28 rear axle, W2: what the harness does not bear of trailer and load is within its limit.
-fn rear_axle_holds(t: &[u32], limits: Limits, rows: &[u32], cargo: Cargo) -> bool
-    requires { ⌜ CargoIn limits (now t) (now rows) cargo ⌝ }
-    ensures { λ r. ⌜ r ≡ ofCargo rearAxleHolds limits (now (t .entry)) cargo ⌝ }
-{
-    let h = moment(t, limits, rows, cargo);
-    let weight = weight_aboard(t, limits, rows, cargo);
-    let truck = cargo.truck;
-    let ejhr = truck_field(t, limits, truck, EJHR);
     let em = truck_field(t, limits, truck, EM);
     let emmr = truck_field(t, limits, truck, EMMR);
-    rear_holds(h, ejhr, weight, em, emmr)
+    AxlesHeld {
+        middle: middle_holds(h, ejhr, cm, cjfc, cjfh, cjfm, emmm),
+        rear: rear_holds(h, ejhr, weight, em, emmr),
+    }
 }
 
 pub enum Axle {
@@ -225,9 +225,10 @@ fn axle_holds(axle: Axle, t: &[u32], limits: Limits, rows: &[u32], cargo: Cargo)
     requires { ⌜ CargoIn limits (now t) (now rows) cargo ⌝ }
     ensures { λ r. ⌜ r ≡ ofCargo (axleTest axle) limits (now (t .entry)) cargo ⌝ }
 {
+    let held = axles_under(t, limits, rows, cargo);
     match axle {
-        Axle::Middle => middle_axle_holds(t, limits, rows, cargo),
-        Axle::Rear => rear_axle_holds(t, limits, rows, cargo),
+        Axle::Middle => held.middle,
+        Axle::Rear => held.rear,
     }
 }
 
@@ -276,6 +277,32 @@ pub fn lowest_departure(
         departure -= 1;
     }
     found
+}
+
+// Whether both axles hold at every departure of a used truck, those that do not count among them. Most plans are so, and this is told without
+// a search for each axle.
+pub fn axles_hold(t: &[u32], limits: Limits, rows: &[u32], start: usize, end: usize) -> bool
+    requires { ⌜ HoldsRows limits (now t) (now rows) × OneTruck (stacksIn limits (now t)) start end ⌝ }
+    ensures { λ r. ⌜ (r ≡ true → AxlesKept (instanceIn limits (now (t .entry))) (block (stacksIn limits (now (t .entry))) start end)) ⌝ }
+{
+    let truck = truck_at(t, limits, rows, start);
+    let list = suppliers(t, limits, truck);
+    let mut departure = list.len() as u32;
+    while 0 < departure {
+        let cargo = Cargo {
+            truck,
+            start,
+            end,
+            first: 1,
+            last: departure,
+        };
+        let held = axles_under(t, limits, rows, cargo);
+        if !(held.middle & held.rear) {
+            return false;
+        }
+        departure -= 1;
+    }
+    true
 }
 
 // 26 overload, W1: the stacks of a used truck weigh no more than its load limit. All its stacks are summed, whatever their supplier.

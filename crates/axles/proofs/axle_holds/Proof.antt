@@ -1,33 +1,22 @@
--- `axles::axle_holds`: each arm asks the rule of its axle.
+-- The axle that is asked for.
 use borrow.Author.Needs.{needs}
 use Rattle.axles.proofs.axle_holds.Statement.{statement}
 use Rattle.axles.proofs.axle_holds.Tie as tie
 
+axles-under-requires : tie.Need-axles-under-requires
+axles-under-requires c κs = search needs
+
 enum-told : tie.Need-enum-told
 enum-told c = search needs
-
-middle-axle-holds-requires : tie.Need-middle-axle-holds-requires
-middle-axle-holds-requires c κs = search needs
 
 enum-told-2 : tie.Need-enum-told-2
 enum-told-2 c = search needs
 
-rear-axle-holds-requires : tie.Need-rear-axle-holds-requires
-rear-axle-holds-requires c κs = search needs
-
 returns : tie.Need-returns
-returns c = rw (c .before .enum-told .given .1) (c .middle-axle-holds .ensures)
+returns c = rw (c .enum-told .given .1) (c .before .before .axles-under .ensures .0)
 
 returns-2 : tie.Need-returns-2
-returns-2 c = rw (c .before .enum-told2 .given .1) (c .rear-axle-holds .ensures)
+returns-2 c = rw (c .enum-told2 .given .1) (c .before .before .axles-under .ensures .1)
 
 pub axle-holds-spec : {M : Type 1} → statement M
-axle-holds-spec =
-    tie.close
-    (tie.spec
-    enum-told
-    middle-axle-holds-requires
-    enum-told-2
-    rear-axle-holds-requires
-    returns
-    returns-2)
+axle-holds-spec = tie.close (tie.spec axles-under-requires enum-told enum-told-2 returns returns-2)
