@@ -67,6 +67,19 @@ pub found-none : (xs : List Place) → ((q : Place) → In q xs → ⊥) → Not
 found-none [] empty = sym lowest-none
 found-none (p ∷ xs) empty = absurd (empty p (inl refl))
 
+-- a search finds nothing exactly where no place is listed
+pub empty-found : (xs : List Place) → xs ≡ [] → Nothing ≡ lowestIn xs
+empty-found xs e = rw e (sym lowest-none)
+
+pub none-listed : (xs : List Place) → Nothing ≡ lowestIn xs → xs ≡ []
+unfolding lowestIn lowest lowerOf
+none-listed [] e = refl
+none-listed (p ∷ xs) e = absurd (never (lowest xs) e)
+  where
+    never : (o : Option Place) → Nothing ≡ foundOf (lowerOf p o) → ⊥
+    never none e = let z : _≡_ {A = ℕ} 0 1 = cc in omega arith
+    never (some q) e = let z : _≡_ {A = ℕ} 0 1 = cc in omega arith
+
 -- ---- two lists, one behind the other
 lowest-more : (p : Place) (ps : List Place) → lowestIn (p ∷ ps) ≡ lowerFound (At p) (lowestIn ps)
 unfolding lowestIn lowest lowerOf

@@ -1,5 +1,7 @@
 // What a search for broken rules answers. Most searches keep the lowest place that they have found so far, and may then look in any order.
 ghost use mathlib.Core.Path.{_≡_};
+ghost use mathlib.Core.Logic.{_↔_};
+ghost use mathlib.Core.Bool.{true};
 ghost use Rattle.meaning.specs.Lists.{onlyIf};
 ghost use Rattle.meaning.specs.Places.{place, lower};
 ghost use Rattle.search.specs.Lowest.{lowestIn, lowerFound};
@@ -55,4 +57,14 @@ pub fn place_if(broken: bool, first: u32, second: u32, third: u32) -> Found
         });
     }
     Found::Nothing
+}
+
+// Whether a search found nothing.
+pub fn is_nothing(found: Found) -> bool
+    ensures { λ r. ⌜ (r ≡ true) ↔ (found ≡ Found.Nothing) ⌝ }
+{
+    match found {
+        Found::At(_) => false,
+        Found::Nothing => true,
+    }
 }

@@ -2,3 +2,4 @@ pub mod Items
 pub mod Tally
 pub mod Docks
 pub mod Stacks
+pub mod Kept

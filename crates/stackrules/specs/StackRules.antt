@@ -1,7 +1,7 @@
 -- The rules whose places begin with a stack's number and whose test looks at that stack alone, by the names that the code has for them.
 use mathlib.Core.Path.{_≡_}
-use mathlib.Core.Bool.{Bool}
-use mathlib.Core.List.{List}
+use mathlib.Core.Bool.{Bool, true}
+use mathlib.Core.List.{List, [], _∷_}
 use Prim.Native.Nat.{ℕ, _-_, _≤_}
 use lib.ListN.{length, getD}
 use Rattle.meaning.specs.declared.Place.{Place}
@@ -33,6 +33,18 @@ stackRulePlaces TopHeavy i p = stackPlaces topWeightWithin weightAbove i p
 stackRulePlaces TooMany i p = stackPlaces stackabilityKept itemCount i p
 stackRulePlaces Dense i p = stackPlaces densityWithin sm i p
 stackRulePlaces Outside i p = stackPlaces inside exceededSide i p
+
+-- an item of a stack that keeps every rule on items
+pub record ItemKept (i : Instance) (s : Stack) (a : Item) : Type 0 where
+  pub each : (rule : ItemRule) → itemTest rule i s a ≡ true
+
+-- a stack whose items keep every rule on items
+pub record LoadKept (i : Instance) (s : Stack) : Type 0 where
+  pub each : (rule : ItemRule) → stackRulePlaces (EachItem rule) i (s ∷ []) ≡ []
+
+-- stacks that keep every rule on stacks, 10 to 16 and 18 to 22
+pub record StacksKept (i : Instance) (p : List Stack) : Type 0 where
+  pub each : (rule : StackRule) → stackRulePlaces rule i p ≡ []
 
 -- the words hold how often these stacks load each of the first `items` items
 pub record Tally (items : ℕ) (p : List Stack) (times : List ℕ) : Type 0 where

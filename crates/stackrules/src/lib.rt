@@ -1,6 +1,6 @@
 // The item rules 9 to 14, and the stack and placement rules whose test looks at one stack alone: 15, 16, 18 to 22.
 ghost use mathlib.Core.Path.{_≡_};
-ghost use mathlib.Core.Bool.{not, cond};
+ghost use mathlib.Core.Bool.{true, not, cond};
 ghost use mathlib.Core.List.{[], _∷_};
 ghost use Prim.Native.Nat.{_+_, _*_, _≤_, _<_};
 ghost use lib.Dec.{leb, eqb};
@@ -12,9 +12,10 @@ ghost use Rattle.meaning.specs.Rules.{notOnce, plantMatches, productCarried, su
 ghost use Rattle.table.specs.Filled.{Filled, stackAt, ItemNumber};
 ghost use Rattle.search.specs.Lowest.{lowestIn};
 ghost use Rattle.visits.specs.Visits.{visitAt, HoldsRows};
-ghost use Rattle.stackrules.specs.StackRules.{itemTest, stackRulePlaces, Tally};
+ghost use Rattle.stackrules.specs.StackRules.{itemTest, stackRulePlaces, ItemKept, LoadKept, StacksKept, Tally};
 use meaning::Limits;
 use search::Found;
+use search::is_nothing;
 use search::lower_of;
 use search::place_if;
 use table::clear;
@@ -381,4 +382,65 @@ pub fn lowest_stack(rule: StackRule, t: &[u32], limits: Limits, rows: &[u32]) ->
         found = lower_of(stack_place(rule, t, limits, rows, k), found);
     }
     found
+}
+
+// ---- all rules on stacks at once. Most plans keep them, and one walk over the stacks tells so, where the searches above walk once for each
+// rule. That the answer is yes where it could be is not promised, since nothing depends on it
+
+// Whether an item of a stack keeps every rule on items.
+fn item_keeps_rules(t: &[u32], limits: Limits, s: usize, n: u32) -> bool
+    requires { ⌜ Filled limits (now t) × (s < length (stacksIn limits (now t))) × ItemNumber (instanceIn limits (now t)) n ⌝ }
+    ensures { λ r. ⌜ (r ≡ true → ItemKept (instanceIn limits (now (t .entry))) (stackAt (stacksIn limits (now (t .entry))) s)
+        (item (instanceIn limits (now (t .entry))) n)) ⌝ }
+{
+    (((((plant_matches(t, limits, s, n) & product_carried(t, limits, s, n))
+        & supplier_visited(t, limits, s, n))
+        & arrives_in_window(t, limits, s, n))
+        & docks_served(t, limits, s, n))
+        & is_stackable(t, limits, s, n))
+        & orientation_kept(t, limits, s, n)
+}
+
+// Whether all items of a stack keep every rule on items.
+fn load_keeps_rules(t: &[u32], limits: Limits, s: usize) -> bool
+    requires { ⌜ Filled limits (now t) × (s < length (stacksIn limits (now t))) ⌝ }
+    ensures { λ r. ⌜ (r ≡ true → LoadKept (instanceIn limits (now (t .entry))) (stackAt (stacksIn limits (now (t .entry))) s)) ⌝ }
+{
+    let mut j = load_count(t, limits, s);
+    while 0 < j {
+        j -= 1;
+        if !item_keeps_rules(t, limits, s, load_entry(t, limits, s, j)) {
+            return false;
+        }
+    }
+    true
+}
+
+// Whether the stack that is visited at place k keeps every rule on stacks.
+fn stack_keeps_rules(t: &[u32], limits: Limits, rows: &[u32], k: usize) -> bool
+    requires { ⌜ HoldsRows limits (now t) (now rows) × (k < length (stacksIn limits (now t))) ⌝ }
+    ensures { λ r. ⌜ (r ≡ true → StacksKept (instanceIn limits (now (t .entry))) (visitAt (stacksIn limits (now (t .entry))) k ∷ [])) ⌝ }
+{
+    let docks = is_nothing(docks_place(t, limits, rows, k));
+    let top = is_nothing(top_heavy_place(t, limits, rows, k));
+    let count = is_nothing(too_many_place(t, limits, rows, k));
+    let density = is_nothing(dense_place(t, limits, rows, k));
+    let ground = is_nothing(outside_place(t, limits, rows, k));
+    let items = load_keeps_rules(t, limits, stack_at(t, limits, rows, k));
+    ((((docks & top) & count) & density) & ground) & items
+}
+
+// Whether all stacks keep every rule on stacks: 10 to 16 and 18 to 22.
+pub fn stacks_keep_rules(t: &[u32], limits: Limits, rows: &[u32]) -> bool
+    requires { ⌜ HoldsRows limits (now t) (now rows) ⌝ }
+    ensures { λ r. ⌜ (r ≡ true → StacksKept (instanceIn limits (now (t .entry))) (stacksIn limits (now (t .entry)))) ⌝ }
+{
+    let mut k = stack_count(t, limits);
+    while 0 < k {
+        k -= 1;
+        if !stack_keeps_rules(t, limits, rows, k) {
+            return false;
+        }
+    }
+    true
 }
