@@ -1,25 +1,32 @@
--- Rules 23 to 25 over the used trucks, from the last visited to the first: each truck that is settled settles the plan so far.
+-- Rules 23 to 25 over the used trucks, from the last visited to the first: each truck that is settled settles the plan so far. And what is
+-- known to be kept has no place.
 use mathlib.Core.Path.{_≡_, refl, sym, ap₂, _∙_}
-use mathlib.Core.Bool.{Bool, true, _&&_}
+use mathlib.Core.Bool.{Bool, true, false, not, _&&_, _||_}
 use mathlib.Core.Logic.{inl}
 use mathlib.Core.List.{List, [], _∷_, _++_}
 use Prim.Native.Nat.{ℕ, zero, suc, _+_, _-_, _≤_}
 use native.Mathlib.Omega.{arith}
+use lib.Dec.{leb, eqb}
 use lib.ListN.{length, drop}
 use Rattle.meaning.specs.declared.Place.{Place}
-use Rattle.meaning.specs.Lists.{between}
+use Rattle.meaning.specs.Lists.{all, between, upFrom}
 use Rattle.meaning.specs.Model.{Instance, Stack}
-use Rattle.meaning.proofs.Tests.{and-reads, between-reads}
+use Rattle.meaning.proofs.Tests.{true≢false, and-reads, between-reads}
+use Rattle.meaning.proofs.Lists.{all-reads, in-upFrom}
 use Rattle.meaning.proofs.Permute.{Same}
 use Rattle.search.specs.Lowest.{lowestIn}
 use Rattle.search.specs.declared.Found.the-variants.{Nothing}
-use Rattle.search.proofs.Lowest.{lowest-none}
+use Rattle.search.proofs.Lowest.{empty-found}
 use Rattle.visits.specs.Visits.{visited, block, OneTruck, Parted}
 use Rattle.visits.proofs.Order.{visited-perm}
 use Rattle.visits.proofs.UsedTrucks.{parted-end}
+use Rattle.stackrules.specs.StackRules.{StacksKept}
 use Rattle.pairrules.specs.declared.PairRule.the-variants.{Overlap, Order}
 use Rattle.sweep.specs.Along.{Settled}
-use Rattle.judging.specs.Judging.{truckRulePlaces, rulePlaces, ruleOf}
+use Rattle.judging.specs.Judging.{truckRulePlaces, rulePlaces, ruleOf, IsKept}
+use Rattle.judging.specs.declared.Kept.{Kept}
+use Rattle.judging.specs.declared.Rule.{Rule}
+use Rattle.judging.specs.declared.Rule.the-variants.{OfStacks, OfTrucks}
 use Rattle.judging.specs.declared.TruckRule.{TruckRule}
 use Rattle.judging.specs.declared.TruckRule.the-variants.{EachPair, Unbraced}
 use Rattle.judging.proofs.Trucks.{same-places, places-end, places-split}
@@ -80,18 +87,39 @@ module _ {i : Instance} {p : List Stack} where
       }
 
 -- ---- the rule of a verdict
+-- a rule on stacks
+abbrev isOfStacks : Rule → Bool
+isOfStacks (OfStacks rule) = true
+isOfStacks (OfTrucks rule) = false
+
+-- up to 22 all but 17 are
+stacks-named : all (λ v. not (leb v 22 && not (eqb v 17)) || isOfStacks (ruleOf v)) (upFrom 10 19) ≡ true
+unfolding all upFrom
+stacks-named = refl
+
 module _ {i : Instance} {p : List Stack} where
+  none-of-stacks : (rule : Rule) → isOfStacks rule ≡ true → StacksKept i p → Nothing ≡ lowestIn (rulePlaces rule i p)
+  none-of-stacks (OfStacks rule) e k = empty-found _ (k .each rule)
+  none-of-stacks (OfTrucks rule) e k = absurd (true≢false (sym e))
+
   none-from-23 : (k : ℕ) → k ≤ 2 → Settled i p → Nothing ≡ lowestIn (rulePlaces (ruleOf (23 + k)) i p)
-  none-from-23 zero h s = rw (s .overlap) (sym lowest-none)
-  none-from-23 (suc zero) h s = rw (s .unbraced) (sym lowest-none)
-  none-from-23 (suc (suc zero)) h s = rw (s .order) (sym lowest-none)
+  none-from-23 zero h s = empty-found _ (s .overlap)
+  none-from-23 (suc zero) h s = empty-found _ (s .unbraced)
+  none-from-23 (suc (suc zero)) h s = empty-found _ (s .order)
   none-from-23 (suc (suc (suc k))) h s = absurd (omega arith)
 
-  -- a settled plan has no place of 23 to 25
-  pub settled-none : {settled : Bool} (v : ℕ) → (settled ≡ true → Settled i p) → (settled && between 23 25 v) ≡ true
-      → Nothing ≡ lowestIn (rulePlaces (ruleOf v) i p)
-  settled-none {settled} v s e =
-      let both = and-reads settled (between 23 25 v) .0 e in
-      let inside = between-reads 23 25 v .0 (both .1) in
-      let from : 23 + (v - 23) ≡ v = omega arith in
-      rw from at (none-from-23 (v - 23) (omega arith) (s (both .0)))
+  module _ {kept : Kept} (known : IsKept kept i p) (v : ℕ) where
+    -- where the rules on stacks are kept, there is no place of one
+    pub stacks-none : 10 ≤ v → v ≤ 28 → (kept .stacks && (leb v 22 && not (eqb v 17))) ≡ true → Nothing ≡ lowestIn (rulePlaces (ruleOf v) i p)
+    stacks-none from upto e =
+        let both = and-reads (kept .stacks) (leb v 22 && not (eqb v 17)) .0 e in
+        let named = all-reads _ (upFrom 10 19) .0 stacks-named v (in-upFrom 10 19 v .1 (omega arith)) in
+        none-of-stacks (ruleOf v) (rw (both .1) at named) (known .stacks (both .0))
+
+    -- where 23 to 25 are settled, there is no place of one
+    pub settled-none : (kept .pairs && between 23 25 v) ≡ true → Nothing ≡ lowestIn (rulePlaces (ruleOf v) i p)
+    settled-none e =
+        let both = and-reads (kept .pairs) (between 23 25 v) .0 e in
+        let inside = between-reads 23 25 v .0 (both .1) in
+        let from : 23 + (v - 23) ≡ v = omega arith in
+        rw from at (none-from-23 (v - 23) (omega arith) (known .pairs (both .0)))

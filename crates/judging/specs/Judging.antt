@@ -1,4 +1,6 @@
 -- The rules 10 to 28 by the names that the code has for them, in the order of the verdict table.
+use mathlib.Core.Path.{_≡_}
+use mathlib.Core.Bool.{true}
 use mathlib.Core.List.{List, [], _∷_}
 use Prim.Native.Nat.{ℕ, _-_}
 use lib.ListN.{getD}
@@ -8,11 +10,13 @@ use Rattle.meaning.specs.Measures.{UsedTruck}
 use Rattle.meaning.specs.Rules.{pairPlaces, stackPlaces, truckPlaces, departurePlaces, braced, noAmount, withinLoadLimit}
 use Rattle.stackrules.specs.declared.ItemRule.the-variants.{Plant, Product, Supplier, Day, Dock, Mixed, Turned}
 use Rattle.stackrules.specs.declared.StackRule.the-variants.{EachItem, Docks, TopHeavy, TooMany, Dense, Outside}
-use Rattle.stackrules.specs.StackRules.{stackRulePlaces}
+use Rattle.stackrules.specs.StackRules.{stackRulePlaces, StacksKept}
 use Rattle.pairrules.specs.declared.PairRule.the-variants.{SecondPair, Overlap, Order}
 use Rattle.pairrules.specs.PairRules.{pairTest}
 use Rattle.axles.specs.declared.Axle.the-variants.{Middle, Rear}
 use Rattle.axles.specs.Aboard.{axleTest}
+use Rattle.sweep.specs.Along.{Settled}
+use Rattle.judging.specs.declared.Kept.{Kept}
 use Rattle.judging.specs.declared.TruckRule.{TruckRule}
 use Rattle.judging.specs.declared.TruckRule.the-variants.{EachPair, Unbraced, Overload, EachDeparture}
 use Rattle.judging.specs.declared.Rule.{Rule}
@@ -41,6 +45,11 @@ laterRules =
 -- the rule of a verdict from 10 to 28; another number has none, and the last one stands in
 abbrev pub ruleOf : ℕ → Rule
 ruleOf verdict = getD laterRules (verdict - 10) (OfTrucks (EachDeparture Rear))
+
+-- a plan keeps the rules that are held for kept
+pub record IsKept (kept : Kept) (i : Instance) (p : List Stack) : Type 0 where
+  pub stacks : kept .stacks ≡ true → StacksKept i p
+  pub pairs : kept .pairs ≡ true → Settled i p
 
 -- a used truck by its truck and copy
 abbrev pub usedTruck : ℕ → ℕ → UsedTruck

@@ -12,7 +12,7 @@ ghost use Rattle.table.specs.Filled.{Filled, stackAt, TruckNumber};
 ghost use Rattle.search.specs.Lowest.{lowestIn};
 ghost use Rattle.visits.specs.Visits.{block, HoldsRows, OneTruck};
 ghost use Rattle.sweep.specs.Along.{Settled};
-ghost use Rattle.judging.specs.Judging.{truckRulePlaces, rulePlaces, ruleOf, usedTruck};
+ghost use Rattle.judging.specs.Judging.{truckRulePlaces, rulePlaces, ruleOf, IsKept, usedTruck};
 use axles::Axle;
 use axles::lowest_departure;
 use axles::overload_place;
@@ -28,6 +28,7 @@ use stackrules::ItemRule;
 use stackrules::StackRule;
 use stackrules::lowest_not_once;
 use stackrules::lowest_stack;
+use stackrules::stacks_keep_rules;
 use sweep::is_settled;
 use table::extra_coefficient;
 use table::fields::IC;
@@ -274,13 +275,23 @@ fn lowest_place(rule: Rule, t: &[u32], limits: Limits, rows: &[u32]) -> Found
     }
 }
 
-// The lowest place where the rule of a verdict is broken. Where rules 23 to 25 are settled, there is none to look for.
-fn lowest_unsettled(settled: bool, verdict: u32, t: &[u32], limits: Limits, rows: &[u32]) -> Found
+// What is known of a plan before its rules are asked one after another: whether it keeps those on stacks, 10 to 16 and 18 to 22, and whether
+// it keeps 23 to 25. Most plans keep them all.
+struct Kept {
+    stacks: bool,
+    pairs: bool,
+}
+
+// The lowest place where the rule of a verdict is broken. Where the rule is known to be kept, there is none to look for.
+fn lowest_unsettled(kept: Kept, verdict: u32, t: &[u32], limits: Limits, rows: &[u32]) -> Found
     requires { ⌜ HoldsRows limits (now t) (now rows) × (10 ≤ verdict) × (verdict ≤ 28)
-        × (settled ≡ true → Settled (instanceIn limits (now t)) (stacksIn limits (now t))) ⌝ }
+        × IsKept kept (instanceIn limits (now t)) (stacksIn limits (now t)) ⌝ }
     ensures { λ r. ⌜ r ≡ lowestIn (rulePlaces (ruleOf verdict) (instanceIn limits (now (t .entry))) (stacksIn limits (now (t .entry)))) ⌝ }
 {
-    if settled & ((23 <= verdict) & (verdict <= 25)) {
+    if kept.stacks & ((verdict <= 22) & (verdict != 17)) {
+        return Found::Nothing;
+    }
+    if kept.pairs & ((23 <= verdict) & (verdict <= 25)) {
         return Found::Nothing;
     }
     lowest_place(rule_of(verdict), t, limits, rows)
@@ -301,15 +312,15 @@ fn refuse(verdict: u32, place: Place) -> Answer
 }
 
 // The verdict by rules 10 to 28, each over the whole plan before the next.
-fn judge_visited(settled: bool, t: &[u32], limits: Limits, rows: &[u32]) -> Answer
-    requires { ⌜ HoldsRows limits (now t) (now rows) × (settled ≡ true → Settled (instanceIn limits (now t)) (stacksIn limits (now t))) ⌝ }
+fn judge_visited(kept: Kept, t: &[u32], limits: Limits, rows: &[u32]) -> Answer
+    requires { ⌜ HoldsRows limits (now t) (now rows) × IsKept kept (instanceIn limits (now t)) (stacksIn limits (now t)) ⌝ }
     ensures { λ r. ⌜ r ≡ firstBroken (drop 1 rules) (instanceIn limits (now (t .entry))) (stacksIn limits (now (t .entry)))
         (acceptance (cost (instanceIn limits (now (t .entry))) (stacksIn limits (now (t .entry))))
         (length (usedTrucks (stacksIn limits (now (t .entry)))))) ⌝ }
 {
     let mut verdict: u32 = 10;
     while verdict <= 28 {
-        let found = lowest_unsettled(settled, verdict, t, limits, rows);
+        let found = lowest_unsettled(kept, verdict, t, limits, rows);
         match found {
             Found::At(place) => return refuse(verdict, place),
             Found::Nothing => {}
@@ -340,6 +351,9 @@ pub fn judge(
         Found::Nothing => {}
     }
     visit_stacks(t, limits, keys, order, rows);
-    let settled = pairs_settled(t, limits, rows, keys, order);
-    judge_visited(settled, t, limits, rows)
+    let kept = Kept {
+        stacks: stacks_keep_rules(t, limits, rows),
+        pairs: pairs_settled(t, limits, rows, keys, order),
+    };
+    judge_visited(kept, t, limits, rows)
 }

@@ -33,6 +33,9 @@ enum-told c = search needs
 visit-stacks-requires : tie.Need-visit-stacks-requires
 visit-stacks-requires c κs = search needs
 
+stacks-keep-rules-requires : tie.Need-stacks-keep-rules-requires
+stacks-keep-rules-requires c κs = search needs
+
 pairs-settled-requires : tie.Need-pairs-settled-requires
 pairs-settled-requires c κs = search needs
 
@@ -54,7 +57,8 @@ same-length-5 c = search needs
 returns-2 : tie.Need-returns-2
 returns-2 c =
     let s = c .before .before .before .before .before .before in
-    let v = s .before .before .before .before .before .before .before .before .before .before in
+    let k = s .before .before .before .before in
+    let v = k .before .before .before .before .before .before .before .before in
     let e = v .before .before .before .before in
     let n = e .before .before .before .before in
     let a = n .before .before .before .before .before .before .before .args in
@@ -73,6 +77,7 @@ judge-spec =
     returns
     enum-told
     visit-stacks-requires
+    stacks-keep-rules-requires
     pairs-settled-requires
     judge-visited-requires
     same-length-2

@@ -11,13 +11,13 @@ use Rattle.judging.proofs.judge_visited.Statement.{statement}
 use Rattle.judging.proofs.judge_visited.Tie as tie
 
 abbrev Inv-loop : tie.InvT-loop
-Inv-loop settled t limits rows verdict₀ verdict =
+Inv-loop kept t limits rows verdict₀ verdict =
     let i = instanceIn limits t in
     let p = stacksIn limits t in
     Asked i p (acceptance (cost i p) (length (usedTrucks p))) verdict
 
 abbrev μ-loop : tie.MeasureT-loop
-μ-loop settled t limits rows verdict₀ verdict = 29 - verdict
+μ-loop kept t limits rows verdict₀ verdict = 29 - verdict
 
 loop-holds : tie.Need-loop-holds Inv-loop μ-loop
 loop-holds c = asked-start
