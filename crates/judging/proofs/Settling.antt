@@ -1,4 +1,4 @@
--- Rules 23 to 25 over the used trucks, from the last visited to the first: each truck that is settled settles the plan so far. And what is
+-- Rules 23 to 25, 27 and 28 over the used trucks, from the last visited to the first: what each truck keeps, the plan so far keeps. And what is
 -- known to be kept has no place.
 use mathlib.Core.Path.{_≡_, refl, sym, ap₂, _∙_}
 use mathlib.Core.Bool.{Bool, true, false, not, _&&_, _||_}
@@ -6,6 +6,7 @@ use mathlib.Core.Logic.{inl}
 use mathlib.Core.List.{List, [], _∷_, _++_}
 use Prim.Native.Nat.{ℕ, zero, suc, _+_, _-_, _≤_}
 use native.Mathlib.Omega.{arith}
+use borrow.Author.Tests.{leb-true}
 use lib.Dec.{leb, eqb}
 use lib.ListN.{length, drop}
 use Rattle.meaning.specs.declared.Place.{Place}
@@ -23,6 +24,8 @@ use Rattle.visits.proofs.UsedTrucks.{parted-end}
 use Rattle.stackrules.specs.StackRules.{StacksKept}
 use Rattle.pairrules.specs.declared.PairRule.the-variants.{Overlap, Order}
 use Rattle.sweep.specs.Along.{Settled}
+use Rattle.axles.specs.declared.Axle.the-variants.{Middle, Rear}
+use Rattle.axles.specs.Aboard.{AxlesKept}
 use Rattle.judging.specs.Judging.{truckRulePlaces, rulePlaces, ruleOf, IsKept}
 use Rattle.judging.specs.declared.Kept.{Kept}
 use Rattle.judging.specs.declared.Rule.{Rule}
@@ -46,45 +49,47 @@ module _ (rule : TruckRule) (i : Instance) (p : List Stack) where
   kept-all = none-same (truckRulePlaces rule i p) (truckRulePlaces rule i (visited p)) (same-places rule i p (visited p) (visited-perm p))
 
 -- ---- the loop
--- the stacks that are visited from `end` on are settled
-pub record DownSettled (i : Instance) (p : List Stack) (end : ℕ) : Type 0 where
+-- the stacks that are visited from `end` on keep some rules, which are told apart by what A has
+pub record DownKept {A : Type 0} (rule : A → TruckRule) (i : Instance) (p : List Stack) (end : ℕ) : Type 0 where
   pub upto : end ≤ length p
   pub parted : Parted p end
-  pub is : Settled i (drop end (visited p))
+  pub is : (a : A) → truckRulePlaces (rule a) i (drop end (visited p)) ≡ []
 
-module _ {i : Instance} {p : List Stack} where
-  pub settled-start : {end : ℕ} → end ≡ length p → DownSettled i p end
-  settled-start {end} e = record {
-    upto = omega arith;
-    parted = rw e (parted-end p);
-    is = record {
-      overlap = places-end (EachPair Overlap) i p end e;
-      unbraced = places-end Unbraced i p end e;
-      order = places-end (EachPair Order) i p end e;
-    };
-  }
+module _ {A : Type 0} {rule : A → TruckRule} {i : Instance} {p : List Stack} where
+  pub kept-start : {end : ℕ} → end ≡ length p → DownKept rule i p end
+  kept-start {end} e = record { upto = omega arith; parted = rw e (parted-end p); is = λ a. places-end (rule a) i p end e }
 
   -- one used truck more
-  pub settled-more : {start end : ℕ} → DownSettled i p end → OneTruck p start end × Parted p start → Settled i (block p start end) → DownSettled i p start
-  settled-more h o s = record {
+  pub kept-truck : {start end : ℕ} → DownKept rule i p end → OneTruck p start end × Parted p start
+      → ((a : A) → truckRulePlaces (rule a) i (block p start end) ≡ []) → DownKept rule i p start
+  kept-truck h o s = record {
     upto = omega (arith, o .0 .some, o .0 .within);
     parted = o .1;
-    is = record {
-      overlap = kept-more (EachPair Overlap) i p (o .0) (h .parted) (s .overlap) (h .is .overlap);
-      unbraced = kept-more Unbraced i p (o .0) (h .parted) (s .unbraced) (h .is .unbraced);
-      order = kept-more (EachPair Order) i p (o .0) (h .parted) (s .order) (h .is .order);
-    };
+    is = λ a. kept-more (rule a) i p (o .0) (h .parted) (s a) (h .is a);
   }
 
-  pub settled-end : {end : ℕ} → DownSettled i p end → end ≤ 0 → Settled i p
-  settled-end {end} h none =
-      let e : end ≡ 0 = omega arith in
-      let all : Settled i (visited p) = rw e at (h .is) in
-      record {
-        overlap = kept-all (EachPair Overlap) i p (all .overlap);
-        unbraced = kept-all Unbraced i p (all .unbraced);
-        order = kept-all (EachPair Order) i p (all .order);
-      }
+  pub kept-end : {end : ℕ} → DownKept rule i p end → end ≤ 0 → (a : A) → truckRulePlaces (rule a) i p ≡ []
+  kept-end {end} h none a = let e : end ≡ 0 = omega arith in kept-all (rule a) i p (rw e at (h .is a))
+
+-- the rules that are settled along the trailer: 23, 24, 25
+pub data Along : Type 0 where
+  on23 : Along
+  on24 : Along
+  on25 : Along
+
+abbrev pub alongRule : Along → TruckRule
+alongRule on23 = EachPair Overlap
+alongRule on24 = Unbraced
+alongRule on25 = EachPair Order
+
+module _ {i : Instance} {p : List Stack} where
+  pub each-settled : Settled i p → (a : Along) → truckRulePlaces (alongRule a) i p ≡ []
+  each-settled s on23 = s .overlap
+  each-settled s on24 = s .unbraced
+  each-settled s on25 = s .order
+
+  pub all-settled : ((a : Along) → truckRulePlaces (alongRule a) i p ≡ []) → Settled i p
+  all-settled h = record { overlap = h on23; unbraced = h on24; order = h on25 }
 
 -- ---- the rule of a verdict
 -- a rule on stacks
@@ -108,6 +113,11 @@ module _ {i : Instance} {p : List Stack} where
   none-from-23 (suc (suc zero)) h s = empty-found _ (s .order)
   none-from-23 (suc (suc (suc k))) h s = absurd (omega arith)
 
+  none-from-27 : (k : ℕ) → k ≤ 1 → AxlesKept i p → Nothing ≡ lowestIn (rulePlaces (ruleOf (27 + k)) i p)
+  none-from-27 zero h s = empty-found _ (s .each Middle)
+  none-from-27 (suc zero) h s = empty-found _ (s .each Rear)
+  none-from-27 (suc (suc k)) h s = absurd (omega arith)
+
   module _ {kept : Kept} (known : IsKept kept i p) (v : ℕ) where
     -- where the rules on stacks are kept, there is no place of one
     pub stacks-none : 10 ≤ v → v ≤ 28 → (kept .stacks && (leb v 22 && not (eqb v 17))) ≡ true → Nothing ≡ lowestIn (rulePlaces (ruleOf v) i p)
@@ -123,3 +133,11 @@ module _ {i : Instance} {p : List Stack} where
         let inside = between-reads 23 25 v .0 (both .1) in
         let from : 23 + (v - 23) ≡ v = omega arith in
         rw from at (none-from-23 (v - 23) (omega arith) (known .pairs (both .0)))
+
+    -- where the axles hold, there is no place of 27 and 28
+    pub axles-none : v ≤ 28 → (kept .axles && leb 27 v) ≡ true → Nothing ≡ lowestIn (rulePlaces (ruleOf v) i p)
+    axles-none upto e =
+        let both = and-reads (kept .axles) (leb 27 v) .0 e in
+        let from : 27 ≤ v = leb-true 27 v (both .1) in
+        let is : 27 + (v - 27) ≡ v = omega arith in
+        rw is at (none-from-27 (v - 27) (omega arith) (known .axles (both .0)))

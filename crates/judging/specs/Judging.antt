@@ -14,7 +14,7 @@ use Rattle.stackrules.specs.StackRules.{stackRulePlaces, StacksKept}
 use Rattle.pairrules.specs.declared.PairRule.the-variants.{SecondPair, Overlap, Order}
 use Rattle.pairrules.specs.PairRules.{pairTest}
 use Rattle.axles.specs.declared.Axle.the-variants.{Middle, Rear}
-use Rattle.axles.specs.Aboard.{axleTest}
+use Rattle.axles.specs.Aboard.{axleTest, AxlesKept}
 use Rattle.sweep.specs.Along.{Settled}
 use Rattle.judging.specs.declared.Kept.{Kept}
 use Rattle.judging.specs.declared.TruckRule.{TruckRule}
@@ -50,6 +50,7 @@ ruleOf verdict = getD laterRules (verdict - 10) (OfTrucks (EachDeparture Rear))
 pub record IsKept (kept : Kept) (i : Instance) (p : List Stack) : Type 0 where
   pub stacks : kept .stacks ≡ true → StacksKept i p
   pub pairs : kept .pairs ≡ true → Settled i p
+  pub axles : kept .axles ≡ true → AxlesKept i p
 
 -- a used truck by its truck and copy
 abbrev pub usedTruck : ℕ → ℕ → UsedTruck

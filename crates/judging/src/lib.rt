@@ -11,9 +11,11 @@ ghost use Rattle.meaning.specs.Verdict.{refusal, acceptance, firstBroken, cost,
 ghost use Rattle.table.specs.Filled.{Filled, stackAt, TruckNumber};
 ghost use Rattle.search.specs.Lowest.{lowestIn};
 ghost use Rattle.visits.specs.Visits.{block, HoldsRows, OneTruck};
+ghost use Rattle.axles.specs.Aboard.{AxlesKept};
 ghost use Rattle.sweep.specs.Along.{Settled};
 ghost use Rattle.judging.specs.Judging.{truckRulePlaces, rulePlaces, ruleOf, IsKept, usedTruck};
 use axles::Axle;
+use axles::axles_hold;
 use axles::lowest_departure;
 use axles::overload_place;
 use meaning::Answer;
@@ -112,6 +114,22 @@ fn pairs_settled(
     while 0 < end {
         let start = truck_start(t, limits, rows, end);
         if !is_settled(t, limits, rows, start, end, keys, along) {
+            return false;
+        }
+        end = start;
+    }
+    true
+}
+
+// Whether rules 27 and 28 are known to be kept: where the axles of every used truck hold at every departure.
+fn axles_kept(t: &[u32], limits: Limits, rows: &[u32]) -> bool
+    requires { ⌜ HoldsRows limits (now t) (now rows) ⌝ }
+    ensures { λ r. ⌜ (r ≡ true → AxlesKept (instanceIn limits (now (t .entry))) (stacksIn limits (now (t .entry)))) ⌝ }
+{
+    let mut end = stack_count(t, limits);
+    while 0 < end {
+        let start = truck_start(t, limits, rows, end);
+        if !axles_hold(t, limits, rows, start, end) {
             return false;
         }
         end = start;
@@ -275,11 +293,25 @@ fn lowest_place(rule: Rule, t: &[u32], limits: Limits, rows: &[u32]) -> Found
     }
 }
 
-// What is known of a plan before its rules are asked one after another: whether it keeps those on stacks, 10 to 16 and 18 to 22, and whether
-// it keeps 23 to 25. Most plans keep them all.
+// What is known of a plan before its rules are asked one after another: whether it keeps those on stacks, 10 to 16 and 18 to 22, those along
+// the trailer, 23 to 25, and those on axles, 27 and 28. Most plans keep them all.
 struct Kept {
     stacks: bool,
     pairs: bool,
+    axles: bool,
+}
+
+// The walks that tell it. The keys and the places along the trailer are scratch.
+fn rules_kept(t: &[u32], limits: Limits, rows: &[u32], keys: &mut [u64], along: &mut [u32]) -> Kept
+    requires { ⌜ HoldsRows limits (now t) (now rows) × (length (stacksIn limits (now t)) ≤ length (now keys))
+        × (length (stacksIn limits (now t)) ≤ length (now along)) ⌝ }
+    ensures { λ r. ⌜ IsKept r (instanceIn limits (now (t .entry))) (stacksIn limits (now (t .entry))) ⌝ }
+{
+    Kept {
+        stacks: stacks_keep_rules(t, limits, rows),
+        pairs: pairs_settled(t, limits, rows, keys, along),
+        axles: axles_kept(t, limits, rows),
+    }
 }
 
 // The lowest place where the rule of a verdict is broken. Where the rule is known to be kept, there is none to look for.
@@ -292,6 +324,9 @@ fn lowest_unsettled(kept: Kept, verdict: u32, t: &[u32], limits: Limits, rows: &
         return Found::Nothing;
     }
     if kept.pairs & ((23 <= verdict) & (verdict <= 25)) {
+        return Found::Nothing;
+    }
+    if kept.axles & (27 <= verdict) {
         return Found::Nothing;
     }
     lowest_place(rule_of(verdict), t, limits, rows)
@@ -351,9 +386,6 @@ pub fn judge(
         Found::Nothing => {}
     }
     visit_stacks(t, limits, keys, order, rows);
-    let kept = Kept {
-        stacks: stacks_keep_rules(t, limits, rows),
-        pairs: pairs_settled(t, limits, rows, keys, order),
-    };
+    let kept = rules_kept(t, limits, rows, keys, order);
     judge_visited(kept, t, limits, rows)
 }

@@ -33,11 +33,8 @@ enum-told c = search needs
 visit-stacks-requires : tie.Need-visit-stacks-requires
 visit-stacks-requires c κs = search needs
 
-stacks-keep-rules-requires : tie.Need-stacks-keep-rules-requires
-stacks-keep-rules-requires c κs = search needs
-
-pairs-settled-requires : tie.Need-pairs-settled-requires
-pairs-settled-requires c κs = search needs
+rules-kept-requires : tie.Need-rules-kept-requires
+rules-kept-requires c κs = search needs
 
 judge-visited-requires : tie.Need-judge-visited-requires
 judge-visited-requires c κs = search needs
@@ -57,8 +54,7 @@ same-length-5 c = search needs
 returns-2 : tie.Need-returns-2
 returns-2 c =
     let s = c .before .before .before .before .before .before in
-    let k = s .before .before .before .before in
-    let v = k .before .before .before .before .before .before .before .before in
+    let v = s .before .before .before .before .before .before .before .before .before .before in
     let e = v .before .before .before .before in
     let n = e .before .before .before .before in
     let a = n .before .before .before .before .before .before .before .args in
@@ -77,8 +73,7 @@ judge-spec =
     returns
     enum-told
     visit-stacks-requires
-    stacks-keep-rules-requires
-    pairs-settled-requires
+    rules-kept-requires
     judge-visited-requires
     same-length-2
     same-length-3

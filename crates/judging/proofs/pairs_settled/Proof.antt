@@ -6,13 +6,13 @@ use borrow.Author.Tests.{not-false}
 use lib.ListN.{length}
 use Rattle.meaning.specs.Table.{instanceIn, stacksIn}
 use Rattle.meaning.proofs.Tests.{true≢false}
-use Rattle.judging.proofs.Settling.{DownSettled, settled-start, settled-more, settled-end}
+use Rattle.judging.proofs.Settling.{DownKept, kept-start, kept-truck, kept-end, alongRule, each-settled, all-settled}
 use Rattle.judging.proofs.pairs_settled.Statement.{statement}
 use Rattle.judging.proofs.pairs_settled.Tie as tie
 
 abbrev Inv-loop : tie.InvT-loop
 Inv-loop t limits rows keys₀ along₀ end₀ keys along end =
-    DownSettled (instanceIn limits t) (stacksIn limits t) end × (length keys ≡ length keys₀) × (length along ≡ length along₀)
+    DownKept alongRule (instanceIn limits t) (stacksIn limits t) end × (length keys ≡ length keys₀) × (length along ≡ length along₀)
 
 abbrev μ-loop : tie.MeasureT-loop
 μ-loop t limits rows keys₀ along₀ end₀ keys along end = end
@@ -21,7 +21,7 @@ stack-count-requires : tie.Need-stack-count-requires Inv-loop μ-loop
 stack-count-requires c κs = search needs
 
 loop-holds : tie.Need-loop-holds Inv-loop μ-loop
-loop-holds c = (settled-start (c .stack-count .ensures .0), omega arith, omega arith)
+loop-holds c = (kept-start (c .stack-count .ensures .0), omega arith, omega arith)
 
 truck-start-requires : tie.Need-truck-start-requires Inv-loop μ-loop
 truck-start-requires c κs = search needs
@@ -45,7 +45,7 @@ loop-again : tie.Need-loop-again Inv-loop μ-loop
 loop-again c =
     let r = c .before .before .before .before .before in
     let s = r .before .before .before in
-    (settled-more (s .before .before .loop .inv .0) (s .truck-start .ensures) (r .is-settled .ensures .0 (not-false _ (c .if1 .left))), omega arith, omega arith)
+    (kept-truck (s .before .before .loop .inv .0) (s .truck-start .ensures) (each-settled (r .is-settled .ensures .0 (not-false _ (c .if1 .left)))), omega arith, omega arith)
 
 same-length-3 : tie.Need-same-length-3 Inv-loop μ-loop
 same-length-3 c = search needs
@@ -54,7 +54,7 @@ same-length-4 : tie.Need-same-length-4 Inv-loop μ-loop
 same-length-4 c = search needs
 
 returns-2 : tie.Need-returns-2 Inv-loop μ-loop
-returns-2 c = λ e. settled-end (c .before .loop .inv .0) (c .loop-test .left)
+returns-2 c = λ e. all-settled (kept-end (c .before .loop .inv .0) (c .loop-test .left))
 
 pub pairs-settled-spec : {M : Type 1} → statement M
 pairs-settled-spec =
