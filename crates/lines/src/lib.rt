@@ -24,55 +24,46 @@ pub enum Progress {
     OutOfRange(usize),
 }
 
-// ---- tests of ranges
+// ---- tests of ranges. Most lines pass them, so the loops are not left early: without branches the compiler tests several words at once
 
 // Whether each word lies in its range.
 pub fn in_ranges(words: &[u32], lows: &[u32], highs: &[u32]) -> bool
     requires { ⌜ (length (now words) ≤ length (now lows)) × (length (now words) ≤ length (now highs)) ⌝ }
     ensures { λ r. ⌜ r ≡ allWithin (ranges (now (lows .entry)) (now (highs .entry))) (now (words .entry)) ⌝ }
 {
-    let mut i = 0;
-    while i < words.len() {
-        if words[i] < lows[i] {
-            return false;
-        }
-        if highs[i] < words[i] {
-            return false;
-        }
-        i += 1;
+    let mut inside = true;
+    let mut i = words.len();
+    while 0 < i {
+        i -= 1;
+        inside = ((lows[i] <= words[i]) & (words[i] <= highs[i])) & inside;
     }
-    true
+    inside
 }
 
 // Whether all words lie in one range.
 pub fn all_between(words: &[u32], low: u32, high: u32) -> bool
     ensures { λ r. ⌜ r ≡ all (between low high) (now (words .entry)) ⌝ }
 {
-    let mut i = 0;
-    while i < words.len() {
-        if words[i] < low {
-            return false;
-        }
-        if high < words[i] {
-            return false;
-        }
-        i += 1;
+    let mut inside = true;
+    let mut i = words.len();
+    while 0 < i {
+        i -= 1;
+        inside = ((low <= words[i]) & (words[i] <= high)) & inside;
     }
-    true
+    inside
 }
 
 // Whether the word is listed.
 fn is_listed(words: &[u32], word: u32) -> bool
     ensures { λ r. ⌜ r ≡ listed word (now (words .entry)) ⌝ }
 {
-    let mut i = 0;
-    while i < words.len() {
-        if words[i] == word {
-            return true;
-        }
-        i += 1;
+    let mut found = false;
+    let mut i = words.len();
+    while 0 < i {
+        i -= 1;
+        found = (word == words[i]) | found;
     }
-    false
+    found
 }
 
 // Whether no word is listed twice.

@@ -41,8 +41,14 @@ fn ends_in_eight(bytes: &[u8], at: usize) -> bool
 pub fn line_end(bytes: &[u8], from: usize) -> usize
     ensures { λ r. ⌜ r ≡ from + countBefore 10 (drop from (now (bytes .entry))) ⌝ }
 {
+    if bytes.len() < from {
+        return from;
+    }
     let mut at = from;
-    while at < bytes.len() && 8 <= bytes.len() - at && !ends_in_eight(bytes, at) {
+    while 8 <= bytes.len() - at {
+        if ends_in_eight(bytes, at) {
+            return first_byte(bytes, at, 10);
+        }
         at += 8;
     }
     first_byte(bytes, at, 10)

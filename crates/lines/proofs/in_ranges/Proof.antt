@@ -1,82 +1,66 @@
--- The words from the index on decide: the test on them, with the ends from the index on, is the test on all words.
-use Prim.Native.Nat.{_≤_, _-_}
-use mathlib.Core.Path.{_≡_, refl, sym, _∙_}
+-- From the last word down: the words from the index on decide what was found so far.
+use mathlib.Core.Path.{_≡_, sym}
+use Prim.Native.Nat.{_≤_}
 use native.Mathlib.Omega.{arith}
 use lib.ListN.{length, drop}
 use Rattle.meaning.specs.Files.{allWithin}
 use Rattle.lines.specs.Progress.{ranges}
-use Rattle.lines.proofs.Scan.{inside, below, above, within-on, within-off, within-end}
+use Rattle.lines.proofs.Scan.{within-back, within-end}
 use borrow.Author.Needs.{needs}
 use Rattle.lines.proofs.in_ranges.Statement.{statement}
 use Rattle.lines.proofs.in_ranges.Tie as tie
 
 abbrev Inv-loop : tie.InvT-loop
-Inv-loop words lows highs i₀ i = (i ≤ length words) × (allWithin (ranges (drop i lows) (drop i highs)) (drop i words) ≡ allWithin (ranges lows highs) words)
+Inv-loop words lows highs inside₀ i₀ inside i =
+    (i ≤ length words) × (inside ≡ allWithin (ranges (drop i lows) (drop i highs)) (drop i words))
 
 abbrev μ-loop : tie.MeasureT-loop
-μ-loop words lows highs i₀ i = length words - i
+μ-loop words lows highs inside₀ i₀ inside i = i
 
 loop-holds : tie.Need-loop-holds Inv-loop μ-loop
-loop-holds c = (omega arith, refl)
+loop-holds c = let a = c .args in (omega arith, sym (within-end (a .words .now) (length (a .words .now)) (omega arith) (a .lows .now) (a .highs .now)))
 
-mul-if1 : tie.Need-mul-if1 Inv-loop μ-loop
-mul-if1 c = search needs
+sub-i : tie.Need-sub-i Inv-loop μ-loop
+sub-i c = search needs
 
-shared-slice-read-if1 : tie.Need-shared-slice-read-if1 Inv-loop μ-loop
-shared-slice-read-if1 c = search needs
+mul-inside : tie.Need-mul-inside Inv-loop μ-loop
+mul-inside c = search needs
 
-mul-if1-2 : tie.Need-mul-if1-2 Inv-loop μ-loop
-mul-if1-2 c = search needs
+shared-slice-read-inside : tie.Need-shared-slice-read-inside Inv-loop μ-loop
+shared-slice-read-inside c = search needs
 
-shared-slice-read-if1-2 : tie.Need-shared-slice-read-if1-2 Inv-loop μ-loop
-shared-slice-read-if1-2 c = search needs
+mul-inside-2 : tie.Need-mul-inside-2 Inv-loop μ-loop
+mul-inside-2 c = search needs
 
-returns : tie.Need-returns Inv-loop μ-loop
-returns c =
-    let l = c .before .before .before .before in
-    let a = l .before .args in
-    sym (within-off (a .words .now) (l .loop .i) (omega arith) (a .lows .now) (a .highs .now) (omega arith) (omega arith) (below _ _ _ (c .if1 .taken)))
-    ∙ l .loop .inv .1
+shared-slice-read-inside-2 : tie.Need-shared-slice-read-inside-2 Inv-loop μ-loop
+shared-slice-read-inside-2 c = search needs
 
-mul-if2 : tie.Need-mul-if2 Inv-loop μ-loop
-mul-if2 c = search needs
+mul-inside-3 : tie.Need-mul-inside-3 Inv-loop μ-loop
+mul-inside-3 c = search needs
 
-shared-slice-read-if2 : tie.Need-shared-slice-read-if2 Inv-loop μ-loop
-shared-slice-read-if2 c = search needs
+shared-slice-read-inside-3 : tie.Need-shared-slice-read-inside-3 Inv-loop μ-loop
+shared-slice-read-inside-3 c = search needs
 
-mul-if2-2 : tie.Need-mul-if2-2 Inv-loop μ-loop
-mul-if2-2 c = search needs
+mul-inside-4 : tie.Need-mul-inside-4 Inv-loop μ-loop
+mul-inside-4 c = search needs
 
-shared-slice-read-if2-2 : tie.Need-shared-slice-read-if2-2 Inv-loop μ-loop
-shared-slice-read-if2-2 c = search needs
-
-returns-2 : tie.Need-returns-2 Inv-loop μ-loop
-returns-2 c =
-    let l = c .before .before .before .before .before .before .before in
-    let a = l .before .args in
-    sym (within-off (a .words .now) (l .loop .i) (omega arith) (a .lows .now) (a .highs .now) (omega arith) (omega arith) (above _ _ _ (c .if2 .taken)))
-    ∙ l .loop .inv .1
-
-add-i : tie.Need-add-i Inv-loop μ-loop
-add-i c = search needs
+shared-slice-read-inside-4 : tie.Need-shared-slice-read-inside-4 Inv-loop μ-loop
+shared-slice-read-inside-4 c = search needs
 
 loop-less : tie.Need-loop-less Inv-loop μ-loop
 loop-less c = search needs
 
 loop-again : tie.Need-loop-again Inv-loop μ-loop
 loop-again c =
-    let l = c .before .before .before .before .before .before .before in
+    let l = c .before .before .before .before .before in
     let a = l .before .args in
-    let e = inside _ _ _ (c .before .before .before .if1 .left) (c .if2 .left) in (
-      omega arith,
-      sym (within-on (a .words .now) (l .loop .i) (omega arith) (a .lows .now) (a .highs .now) (omega arith) (omega arith) e) ∙ l .loop .inv .1,
-    )
+    (omega arith, within-back (a .words .now) (l .loop .i) (omega arith) (omega arith) (a .lows .now) (a .highs .now) (omega arith) (omega arith) (l .loop .inv .1))
 
-returns-3 : tie.Need-returns-3 Inv-loop μ-loop
-returns-3 c =
+returns : tie.Need-returns Inv-loop μ-loop
+returns c =
     let l = c .before in
-    let a = l .before .args in
-    sym (within-end (a .words .now) (l .loop .i) (omega arith) (a .lows .now) (a .highs .now)) ∙ l .loop .inv .1
+    let e : l .loop .i ≡ 0 = omega arith in
+    rw e at (l .loop .inv .1)
 
 pub in-ranges-spec : {M : Type 1} → statement M
 in-ranges-spec =
@@ -85,17 +69,15 @@ in-ranges-spec =
     Inv-loop
     μ-loop
     loop-holds
-    mul-if1
-    shared-slice-read-if1
-    mul-if1-2
-    shared-slice-read-if1-2
-    returns
-    mul-if2
-    shared-slice-read-if2
-    mul-if2-2
-    shared-slice-read-if2-2
-    returns-2
-    add-i
+    sub-i
+    mul-inside
+    shared-slice-read-inside
+    mul-inside-2
+    shared-slice-read-inside-2
+    mul-inside-3
+    shared-slice-read-inside-3
+    mul-inside-4
+    shared-slice-read-inside-4
     loop-less
     loop-again
-    returns-3)
+    returns)
