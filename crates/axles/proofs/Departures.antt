@@ -1,10 +1,10 @@
 -- The searches: an axle at a departure of numbers that were read, and the places of one used truck.
-use mathlib.Core.Path.{_≡_, refl, sym, ap, ap₂, _∙_}
-use mathlib.Core.Bool.{Bool, true, false, not, _&&_, and-false}
-use mathlib.Core.List.{List, [], _++_, flatMap, append-nil}
+use mathlib.Core.Path.{_≡_, refl, sym, ap, _∙_}
+use mathlib.Core.Bool.{Bool, true, false, not, _&&_}
+use mathlib.Core.List.{List, [], flatMap, append-nil}
 use Prim.Native.Nat.{ℕ, _+_, _-_, _≤_, _<_}
 use native.Mathlib.Omega.{arith}
-use borrow.Author.Tests.{not-false}
+use borrow.Author.Tests.{not-true}
 use lib.Dec.{leb}
 use lib.IntN.{ℤ}
 use lib.ListN.{length, getD, drop, drop-of-length-le}
@@ -129,19 +129,17 @@ pub record DownKept (i : Instance) (u : UsedTruck) (on : List Stack) (departure 
   pub upto : departure ≤ length (departures i u)
   pub is : (axle : Axle) → flatMap (departureAt (axleTest axle) i u on) (drop departure (departures i u)) ≡ []
 
--- where an axle holds, no place is broken
-held-at : (kept : Instance → Truck → List Stack → Bool) (i : Instance) (u : UsedTruck) (p : List Stack) (k : ℕ)
-    → kept i (truckNumbered i (u .truck)) (aboard i p 1 k) ≡ true → departureAt kept i u p k ≡ []
-unfolding departureAt
-held-at kept i u p k e = rw (e, and-false (counts (aboard i p 1 k))) refl
+-- both axles of a truck hold, as the code tests it, or the departure does not count
+module _ (i : Instance) (t : Truck) (on : List Stack) where
+  pub both-held : {middle rear : Bool} → (middle && rear) ≡ true → middle ≡ middleAxleHolds i t on → rear ≡ rearAxleHolds i t on
+      → (axle : Axle) → (counts on && not (axleTest axle i t on)) ≡ false
+  both-held {middle} {rear} e em er axle =
+      let both = and-reads middle rear .0 e in
+      let held : axleTest axle i t on ≡ true = elim axle [ Middle ↦ sym em ∙ both .0 | Rear ↦ sym er ∙ both .1 ] in
+      sym (not-exceeded (counts on) (sym held))
 
--- both axles of a truck hold, as the code tests it
-pub both-held : (i : Instance) (on : List Stack) {truck used : ℕ} {middle rear : Bool} → truck ≡ used → not (middle && rear) ≡ false
-    → middle ≡ middleAxleHolds i (truckNumbered i truck) on → rear ≡ rearAxleHolds i (truckNumbered i truck) on
-    → (axle : Axle) → axleTest axle i (truckNumbered i used) on ≡ true
-both-held i on {truck} {used} {middle} {rear} et e em er axle =
-    let both = and-reads middle rear .0 (not-false (middle && rear) e) in
-    rw (← et) (elim axle [ Middle ↦ sym em ∙ both .0 | Rear ↦ sym er ∙ both .1 ])
+  pub not-counted : {counted : Bool} → counted ≡ counts on → not counted ≡ true → (axle : Axle) → (counts on && not (axleTest axle i t on)) ≡ false
+  not-counted {counted} e n axle = let none : counted ≡ false = not-true counted n in rw (← e, none) refl
 
 module _ {i : Instance} {u : UsedTruck} {on : List Stack} where
   pub kept-start : {departure : ℕ} → departure ≡ length (departures i u) → DownKept i u on departure
@@ -151,13 +149,13 @@ module _ {i : Instance} {u : UsedTruck} {on : List Stack} where
       record { upto = omega arith; is = λ axle. rw (drop-of-length-le (departures i u) h) refl }
 
   -- one departure more
-  pub kept-more : {k : ℕ} → DownKept i u on k → 0 < k → k ≡ getD (departures i u) (k - 1) 0
-      → ((axle : Axle) → axleTest axle i (truckNumbered i (u .truck)) (aboard i on 1 k) ≡ true) → DownKept i u on (k - 1)
-  unfolding flatMap
-  kept-more {k} h some e held = record {
+  pub kept-more : {k truck : ℕ} → DownKept i u on k → 0 < k → k ≡ getD (departures i u) (k - 1) 0 → truck ≡ u .truck
+      → ((axle : Axle) → (counts (aboard i on 1 k) && not (axleTest axle i (truckNumbered i truck) (aboard i on 1 k))) ≡ false)
+      → DownKept i u on (k - 1)
+  unfolding flatMap departureAt
+  kept-more {k} h some e et held = record {
     upto = omega (arith, h .upto);
-    is = λ axle.
-        rw (drop-back (departures i u) k 0 some (h .upto), ← e) (ap₂ _++_ (held-at (axleTest axle) i u on k (held axle)) (h .is axle));
+    is = λ axle. rw (drop-back (departures i u) k 0 some (h .upto), ← e, rw et at (held axle)) (h .is axle);
   }
 
   pub kept-end : {k : ℕ} → DownKept i u on k → k ≤ 0 → (axle : Axle) → flatMap (departureAt (axleTest axle) i u on) (departures i u) ≡ []

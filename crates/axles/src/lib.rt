@@ -1,7 +1,7 @@
 // The rules on a used truck: 26 overload, 27 middle axle, 28 rear axle. The stacks of a used truck are visited together, from place `start`
 // up to `end`. Levers are signed: a stack whose middle lies behind the rear axle counts negative. Nothing is divided.
 ghost use mathlib.Core.Path.{_≡_};
-ghost use mathlib.Core.Bool.{true, cond, not, _&&_};
+ghost use mathlib.Core.Bool.{true, false, cond, not, _&&_};
 ghost use Prim.Native.Nat.{_≤_, _<_};
 ghost use lib.IntN.{pos};
 ghost use Rattle.meaning.specs.Model.{truckNumbered};
@@ -11,6 +11,7 @@ ghost use Rattle.meaning.specs.Table.{instanceIn, stacksIn};
 ghost use Rattle.table.specs.Filled.{Filled, TruckNumber};
 ghost use Rattle.search.specs.Lowest.{lowestIn};
 ghost use Rattle.visits.specs.Visits.{visitAt, block, HoldsRows, OneTruck};
+ghost use Rattle.axles.specs.declared.Axle.{Axle};
 ghost use Rattle.axles.specs.Aboard.{CargoIn, cargoTruck, isAboard, leverAt, cargoStacks, ofCargo};
 ghost use Rattle.axles.specs.Aboard.{axleTest, AxlesKept, twiceA, leverBy, leversOf, momentOf, middleHolds, rearHolds, Moderate};
 use meaning::Limits;
@@ -279,8 +280,20 @@ pub fn lowest_departure(
     found
 }
 
-// Whether both axles hold at every departure of a used truck, those that do not count among them. Most plans are so, and this is told without
-// a search for each axle.
+// Whether neither axle is exceeded at a departure.
+fn departure_holds(t: &[u32], limits: Limits, rows: &[u32], cargo: Cargo) -> bool
+    requires { ⌜ CargoIn limits (now t) (now rows) cargo ⌝ }
+    ensures { λ r. ⌜ (r ≡ true → (axle : Axle) → (counts (cargoStacks limits (now (t .entry)) cargo)
+        && not (ofCargo (axleTest axle) limits (now (t .entry)) cargo)) ≡ false) ⌝ }
+{
+    let held = axles_under(t, limits, rows, cargo);
+    if held.middle & held.rear {
+        return true;
+    }
+    !departure_counts(t, limits, rows, cargo)
+}
+
+// Whether neither axle of a used truck is exceeded at any departure. Most plans are so, and this is told without a search for each axle.
 pub fn axles_hold(t: &[u32], limits: Limits, rows: &[u32], start: usize, end: usize) -> bool
     requires { ⌜ HoldsRows limits (now t) (now rows) × OneTruck (stacksIn limits (now t)) start end ⌝ }
     ensures { λ r. ⌜ (r ≡ true → AxlesKept (instanceIn limits (now (t .entry))) (block (stacksIn limits (now (t .entry))) start end)) ⌝ }
@@ -296,8 +309,7 @@ pub fn axles_hold(t: &[u32], limits: Limits, rows: &[u32], start: usize, end: us
             first: 1,
             last: departure,
         };
-        let held = axles_under(t, limits, rows, cargo);
-        if !(held.middle & held.rear) {
+        if !departure_holds(t, limits, rows, cargo) {
             return false;
         }
         departure -= 1;

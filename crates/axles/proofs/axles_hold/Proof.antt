@@ -5,8 +5,9 @@ use Rattle.meaning.specs.Table.{instanceIn, stacksIn}
 use Rattle.meaning.proofs.Tests.{true≢false}
 use Rattle.visits.specs.Visits.{visitAt, block}
 use Rattle.axles.specs.Aboard.{axleTest}
-use Rattle.axles.proofs.Departures.{both-held, DownKept, kept-start, kept-more, kept-end, departures-length, departure-at, departures-are}
+use Rattle.axles.proofs.Departures.{DownKept, kept-start, kept-more, kept-end, departures-length, departure-at, departures-are}
 use borrow.Author.Needs.{needs}
+use borrow.Author.Tests.{not-false}
 use Rattle.axles.proofs.axles_hold.Statement.{statement}
 use Rattle.axles.proofs.axles_hold.Tie as tie
 
@@ -33,8 +34,8 @@ loop-holds c =
     let s = truck .before .before .before in
     kept-start (departures-length (instanceIn (s .args .limits) (s .args .t .now)) (s .pre .1) (truck .truck-at .ensures .0) (c .suppliers .ensures .0))
 
-axles-under-requires : tie.Need-axles-under-requires Inv-loop μ-loop
-axles-under-requires c κs = search needs
+departure-holds-requires : tie.Need-departure-holds-requires Inv-loop μ-loop
+departure-holds-requires c κs = search needs
 
 returns : tie.Need-returns Inv-loop μ-loop
 returns c = λ e. absurd (true≢false (sym e))
@@ -47,14 +48,13 @@ loop-less c = search needs
 
 loop-again : tie.Need-loop-again Inv-loop μ-loop
 loop-again c =
-    let u = c .before .before in
+    let u = c .before in
     let l = u .before .before in
     let truck = l .before .before in
     let s = truck .before .before .before in
-    let i = instanceIn (s .args .limits) (s .args .t .now) in
     let more = u .before .loop-test .taken in
-    kept-more (l .loop .inv) more (departure-at i (s .pre .1) more (l .loop .inv .upto))
-    (both-held i _ (truck .truck-at .ensures .0) (c .if1 .left) (u .axles-under .ensures .0) (u .axles-under .ensures .1))
+    kept-more (l .loop .inv) more (departure-at (instanceIn (s .args .limits) (s .args .t .now)) (s .pre .1) more (l .loop .inv .upto))
+    (truck .truck-at .ensures .0) (u .departure-holds .ensures (not-false _ (c .if1 .left)))
 
 returns-2 : tie.Need-returns-2 Inv-loop μ-loop
 returns-2 c = λ e.
@@ -73,7 +73,7 @@ axles-hold-spec =
     suppliers-requires
     cast-departure
     loop-holds
-    axles-under-requires
+    departure-holds-requires
     returns
     sub-departure
     loop-less
