@@ -47,7 +47,7 @@ pub fn line_end(bytes: &[u8], from: usize) -> usize
     let mut at = from;
     while 8 <= bytes.len() - at {
         if ends_in_eight(bytes, at) {
-            return first_byte(bytes, at, 10);
+            break;
         }
         at += 8;
     }
@@ -115,10 +115,7 @@ pub enum Parsed {
 pub fn parse_number(digits: &[u8]) -> Parsed
     ensures { λ r. ⌜ r ≡ parsedNumber (number (now (digits .entry))) ⌝ }
 {
-    if digits.len() < 1 {
-        return Parsed::Malformed;
-    }
-    if 10 < digits.len() {
+    if !((1 <= digits.len()) & (digits.len() <= 10)) {
         return Parsed::Malformed;
     }
     if 1 < digits.len() {

@@ -27,12 +27,6 @@ sub-loop c = search needs
 ends-in-eight-requires : tie.Need-ends-in-eight-requires Inv-loop μ-loop
 ends-in-eight-requires c κs = search needs
 
-first-byte-requires : tie.Need-first-byte-requires Inv-loop μ-loop
-first-byte-requires c κs = search needs
-
-returns-2 : tie.Need-returns-2 Inv-loop μ-loop
-returns-2 c = search needs
-
 add-at : tie.Need-add-at Inv-loop μ-loop
 add-at c = search needs
 
@@ -51,11 +45,11 @@ loop-again c =
       ),
     )
 
-first-byte-requires-2 : tie.Need-first-byte-requires-2 Inv-loop μ-loop
-first-byte-requires-2 c κs = search needs
+first-byte-requires : tie.Need-first-byte-requires Inv-loop μ-loop
+first-byte-requires c κs = search needs
 
-returns-3 : tie.Need-returns-3 Inv-loop μ-loop
-returns-3 c = search needs
+returns-2 : tie.Need-returns-2 Inv-loop μ-loop
+returns-2 c = search needs
 
 pub line-end-spec : {M : Type 1} → statement M
 line-end-spec =
@@ -67,10 +61,8 @@ line-end-spec =
     loop-holds
     sub-loop
     ends-in-eight-requires
-    first-byte-requires
-    returns-2
     add-at
     loop-less
     loop-again
-    first-byte-requires-2
-    returns-3)
+    first-byte-requires
+    returns-2)
