@@ -1,6 +1,6 @@
 // The instance file, read into the table: the head's numbers, the items, and the trucks behind them.
 ghost use mathlib.Core.Path.{_≡_};
-ghost use Prim.Native.Nat.{ℕ, _+_, _-_, _*_, _≤_, _<_};
+ghost use Prim.Native.Nat.{_-_, _*_, _≤_};
 ghost use lib.ListN.{length};
 ghost use Rattle.meaning.specs.Limits.{stacksAt};
 ghost use Rattle.meaning.specs.Reader.{line, times};

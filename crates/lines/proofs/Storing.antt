@@ -29,7 +29,6 @@ of-words P (n ∷ ns) h = (h .0, of-words P ns (h .1))
 same-words : (ns : List ℕ) → Every (λ n. word n < 4294967295) ns → map word ns ≡ ns
 same-words [] h = refl
 same-words (n ∷ ns) h =
-    let small = h .0 in
     let same : word n ≡ n = omega arith in
     rw (same, same-words ns (h .1))
 

@@ -2,7 +2,7 @@
 // one; a refusal that comes in goes out unchanged, so callers need no branches.
 ghost use mathlib.Core.Path.{_≡_};
 ghost use mathlib.Core.Bool.{_&&_};
-ghost use Prim.Native.Nat.{ℕ, _+_, _-_, _≤_, _<_};
+ghost use Prim.Native.Nat.{_-_, _≤_, _<_};
 ghost use lib.ListN.{length};
 ghost use Rattle.meaning.specs.Lists.{Every, all, between, listed, distinct, padded};
 ghost use Rattle.meaning.specs.Text.{Form, bytes};

@@ -298,7 +298,3 @@ decodes m i p h =
       stacks = ap (stacksIn m) e ∙ stacks-held m i p h [];
       size = ap length e ∙ length-whole (beyond-begins m i p h []);
     }
-
--- so the words of the model that words hold are those words
-pub encodes : (m : Limits) (i : Instance) (p : List Stack) → Fits m i p → words m (instanceIn m (words m i p)) (stacksIn m (words m i p)) ≡ words m i p
-encodes m i p h = let d = decodes m i p h in ap₂ (words m) (d .instance) (d .stacks)

@@ -2,7 +2,6 @@
 use mathlib.Core.Path.{_≡_}
 use mathlib.Core.Logic.{_↔_}
 use mathlib.Core.List.{List, _++_}
-use Prim.Native.Nat.{ℕ}
 use Rattle.meaning.specs.declared.Limits.{Limits}
 use Rattle.meaning.specs.Lists.{Every}
 use Rattle.meaning.specs.Model.{Instance, Stack}

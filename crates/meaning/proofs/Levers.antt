@@ -9,7 +9,7 @@ use lib.IntN.{ℤ, pos, _+ℤ_, _-ℤ_, _*ℤ_, zero-*ℤ, *ℤ-comm, +ℤ-idl}
 use lib.Signed.{_≤ℤ_}
 use lib.ListN.{length, take}
 use Rattle.meaning.specs.Lists.{In, filter, listed, between, sum, sumℤ}
-use Rattle.meaning.specs.Model.{Instance, Truck, Stack, truckNumbered, truckOf, truck, copy, x, IU, TMm, CM, CJfm, CJfc, CJfh, EM, EJhr, EJcr, EJeh, EMmr, EMmm}
+use Rattle.meaning.specs.Model.{Instance, Truck, Stack, truckNumbered, truckOf, x, IU, TMm, CM, CJfm, CJfc, CJfh, EM, EJhr, EJcr, EJeh, EMmr, EMmm}
 use Rattle.meaning.specs.Measures.{bottom, xe, sm, supplierOrder, UsedTruck, usedBy, sameUsed, usedTrucks, stacksOn, weightOn, departures, stacksAt, lever, H}
 use Rattle.meaning.specs.Rules.{truckPlaces, departurePlaces, counts, withinLoadLimit, middleAxleHolds, rearAxleHolds}
 use Rattle.meaning.specs.Feasible.{weightOf, sumWhere, onTruckOf, onAt, endX, toMiddle, toRear, AxleLoadsWithin}

@@ -115,10 +115,6 @@ module _ {A : Type 0} where
   append-none [] l′ = ((λ e. (refl, e)), (λ h. h .1))
   append-none (a ∷ l) l′ = ((λ e. absurd (no-cons a (l ++ l′) e)), (λ h. absurd (no-cons a l (h .0))))
 
-  pub onlyIf-none : (b : Bool) (a : A) → (onlyIf b a ≡ []) ↔ (b ≡ true → ⊥)
-  onlyIf-none true a = ((λ e k. no-cons a [] e), (λ f. absurd (f refl)))
-  onlyIf-none false a = ((λ e k. true≢false (sym k)), (λ f. refl))
-
   -- a place is listed unless its test passes
   pub unless-none : (b : Bool) (a : A) → (onlyIf (not b) a ≡ []) ↔ (b ≡ true)
   unless-none true a = ((λ e. refl), (λ e. refl))

@@ -39,13 +39,6 @@ module _ {A B : Type 0} (P : A → List ℕ → Type 0) (Q : B → List ℕ → 
   leaves-onward (wrongForm n) next h k = tt
   leaves-onward (outOfRange n) next h k = tt
 
-  pub finds-onward : (r : Outcome A) (next : A → Reader B) → Finds P r → ((a : A) (n : ℕ) (bs : List ℕ) → P a bs → Finds Q (next a n bs))
-      → Finds Q (onward r next)
-  unfolding onward
-  finds-onward (found a n rest) next h k = k a n rest h
-  finds-onward (wrongForm n) next h k = absurd h
-  finds-onward (outOfRange n) next h k = absurd h
-
 pub leaves-map : {A : Type 0} (P Q : A → List ℕ → Type 0) → ((a : A) (bs : List ℕ) → P a bs → Q a bs) → (r : Outcome A) → Leaves P r → Leaves Q r
 leaves-map P Q f (found a n rest) h = f a rest h
 leaves-map P Q f (wrongForm n) h = tt

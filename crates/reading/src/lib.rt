@@ -1,7 +1,6 @@
 // Both files, read into the lent table: the first refusal of 1 to 8 with its places, or the table filled with what the files say.
 ghost use mathlib.Core.Path.{_≡_};
-ghost use mathlib.Core.List.{[]};
-ghost use Prim.Native.Nat.{ℕ, _+_, _≤_, _<_};
+ghost use Prim.Native.Nat.{_+_, _≤_};
 ghost use lib.ListN.{length};
 ghost use Rattle.meaning.specs.Limits.{small, named};
 ghost use Rattle.meaning.specs.Places.{place, lowest};

@@ -1,6 +1,6 @@
 // The working table: where its parts begin, clearing, and the accessors. No other code knows where a word stands in a filled table.
 ghost use mathlib.Core.Path.{_≡_};
-ghost use Prim.Native.Nat.{ℕ, _+_, _-_, _*_, _≤_, _<_};
+ghost use Prim.Native.Nat.{_+_, _≤_, _<_};
 ghost use lib.ListN.{length, getD, take, drop, replicate};
 ghost use Rattle.meaning.specs.Lists.{orderIn};
 ghost use Rattle.meaning.specs.Limits.{small, trucksAt, stacksAt, loadsAt, named};

@@ -1,6 +1,6 @@
 // A truck's lines, read into the truck's own 160 words.
 ghost use mathlib.Core.Path.{_≡_};
-ghost use Prim.Native.Nat.{ℕ, _+_, _*_, _≤_, _<_};
+ghost use Prim.Native.Nat.{_*_, _≤_};
 ghost use lib.ListN.{length};
 ghost use Rattle.meaning.specs.Reader.{line, times};
 ghost use Rattle.meaning.specs.Files.{truckLine, docksLine, truckLines};

@@ -32,7 +32,6 @@ in-ranges-requires : tie.Need-in-ranges-requires
 in-ranges-requires c κs =
     let l = c .before .before .before .before .before in
     let s = l .before .before .before .before .before .before .before in
-    let room = stored-room _ _ _ (l .stored-line .result) (l .stored-line .ensures .1 .1) in
     simp length-take (omega (arith, s .pre, c .before .before .entries .ensures), omega (arith, s .pre, c .before .before .entries .ensures))
 
 judged-requires : tie.Need-judged-requires

@@ -148,7 +148,6 @@ returns c =
     let f = loadLine (length (a .loads .now)) (a .items) (a .held) in
     let first = ended .entries2 .result - 0 in
     let size = a .held + ended .entries2 .result - a .held in
-    let long : length load ≡ 64 = line-in .kept .1 .1 .1 .1 .0 in
     let many : length (take first load) ≡ size = length-take-le first load (omega (arith, kept ended)) ∙ omega arith in
     let within = load-within (a .file .now) (a .loads .now) load (line f) 64 (a .held) first (a .p) (ended .before .judged .result) in (
       rw (copied .copy-words .ensures, put-spliced (a .held) (a .loads .now) (take first load) size many)

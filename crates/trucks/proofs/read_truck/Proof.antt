@@ -97,7 +97,6 @@ part-counted-line-end-2 c = search needs
 counted-line-requires-2 : tie.Need-counted-line-requires-2
 counted-line-requires-2 c κs =
     let products = c .before .before .before .before in
-    let lent = front-lent (after-products products .2) 9 (omega arith) in
     (products .counted-line .ensures "products=" refl .into .sound, omega arith, omega arith)
 
 entries-requires : tie.Need-entries-requires
@@ -135,7 +134,6 @@ part-counted-line-end-3 c = search needs
 counted-line-requires-3 : tie.Need-counted-line-requires-3
 counted-line-requires-3 c κs =
     let docks = c .before .before .before .before in
-    let lent = front-lent (after-docks docks .2) 9 (omega arith) in
     (docks .read-docks .ensures .sound, omega arith, omega arith)
 
 same-length : tie.Need-same-length
