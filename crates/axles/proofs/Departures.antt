@@ -19,12 +19,12 @@ use Rattle.meaning.specs.Measures.{UsedTruck, usedBy, supplierOrder, stacksAt, 
 use Rattle.meaning.specs.Rules.{truckPlaces, departurePlaces, counts, withinLoadLimit, middleAxleHolds, rearAxleHolds}
 use Rattle.meaning.specs.Table.{instanceIn, stacksIn}
 use Rattle.meaning.proofs.Tests.{and-reads, between-reads}
-use Rattle.meaning.proofs.Lists.{every-map, every-reads, in-at, length-upFrom, upFrom-at, drop-back}
+use Rattle.meaning.proofs.Lists.{every-map, every-reads, filter-all, in-at, length-upFrom, upFrom-at, drop-back}
 use Rattle.table.specs.Filled.{Filled, noStack}
 use Rattle.search.specs.Lowest.{lowestIn}
 use Rattle.visits.specs.Visits.{visitOrder, visitAt, block, OneTruck}
 use Rattle.visits.proofs.Order.{order-within}
-use Rattle.visits.proofs.UsedTrucks.{block-length, block-at, block-used, filter-all, used-one, all-on}
+use Rattle.visits.proofs.UsedTrucks.{block-length, block-at, block-used, used-one, all-on}
 use Rattle.visits.proofs.RowMost.{row-most}
 use Rattle.axles.specs.declared.Axle.{Axle}
 use Rattle.axles.specs.declared.Axle.the-variants.{Middle, Rear}

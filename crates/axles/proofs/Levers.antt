@@ -2,17 +2,17 @@
 use mathlib.Core.Path.{_≡_, refl}
 use mathlib.Core.Bool.{Bool, true, false, cond}
 use mathlib.Core.List.{List, [], _∷_}
-use Prim.Native.Nat.{ℕ, suc, _+_, _-_, _*_, _≤_, _<_}
+use Prim.Native.Nat.{ℕ, _+_, _-_, _*_, _≤_, _<_}
 use native.Mathlib.Nat.{le-refl}
 use native.Mathlib.Omega.{arith}
 use lib.IntN.{ℤ, pos, natAbs, _+ℤ_, _-ℤ_, _*ℤ_, +ℤ-idl}
-use lib.ListN.{length, getD, take, drop, take-append-drop}
+use lib.ListN.{drop}
 use Rattle.meaning.specs.declared.Limits.{Limits}
-use Rattle.meaning.specs.Lists.{Every, filter, sum, sumℤ}
+use Rattle.meaning.specs.Lists.{Every, sum, sumℤ}
 use Rattle.meaning.specs.Model.{Instance, Truck, Stack, x, EM, EJcr}
 use Rattle.meaning.specs.Measures.{sm, xe, weightOn, lever, H}
 use Rattle.meaning.specs.Table.{instanceIn, stacksIn}
-use Rattle.meaning.proofs.Lists.{in-filter, every-reads, every-append}
+use Rattle.meaning.proofs.Lists.{every-place, every-take, every-drop, every-filter}
 use Rattle.meaning.proofs.Permute.{every-perm}
 use Rattle.meaning.proofs.Ring.{less, same-less, ring}
 use Rattle.table.specs.Filled.{noStack}
@@ -53,21 +53,6 @@ sum-size : (i : Instance) (t : Truck) (on : List Stack) → twiceA t ≤ 80000 �
 unfolding sumℤ weightOn sum
 sum-size i t [] a h = omega arith
 sum-size i t (s ∷ on) a h = omega (arith, plus-size (lever i t s) (leversOf i t on) (lever-size i t s a (h .0)) (sum-size i t on a (h .1)))
-
--- what holds at every place of a list, and so of the elements of its parts
-module _ {A : Type 0} (P : A → Type 0) where
-  every-place : (d : A) (l : List A) → ((k : ℕ) → k < length l → P (getD l k d)) → Every P l
-  every-place d [] h = tt
-  every-place d (a ∷ l) h = (h 0 (omega arith), every-place d l (λ k m. h (suc k) (omega arith)))
-
-  every-take : (n : ℕ) (l : List A) → Every P l → Every P (take n l)
-  every-take n l h = every-append P (take n l) (drop n l) .0 (rw (take-append-drop n l) h) .0
-
-  every-drop : (n : ℕ) (l : List A) → Every P l → Every P (drop n l)
-  every-drop n l h = every-append P (take n l) (drop n l) .0 (rw (take-append-drop n l) h) .1
-
-  every-filter : (test : A → Bool) (l : List A) → Every P l → Every P (filter test l)
-  every-filter test l h = every-reads P (filter test l) .1 (λ a m. every-reads P l .0 h a (in-filter test l a .0 m .0))
 
 -- the levers of those that are on, of the stacks visited from place k on
 abbrev pub leversFrom : Limits → List ℕ → Cargo → ℕ → ℤ

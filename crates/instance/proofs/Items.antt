@@ -10,9 +10,8 @@ use lib.Dec.{ltb}
 use lib.ListN.{length, getD, List·getD-eq-default}
 use Rattle.meaning.specs.Files.{_to_, allWithin, itemRanges, itemLine}
 use Rattle.meaning.proofs.Tests.{decide}
-use Rattle.meaning.proofs.Fields.{field-within}
+use Rattle.meaning.proofs.Fields.{field-within, ranges-below}
 use Rattle.lines.specs.Progress.{RefusesLargest}
-use Rattle.lines.proofs.Largest.{refuses-ranges}
 
 -- ---- the largest word
 -- an entry is at most the end of its range, also one that a short line lacks
@@ -28,4 +27,4 @@ pub item-refuses-largest : RefusesLargest itemLine
 item-refuses-largest ns l e =
     let long : getD ns 0 0 ≤ 20000 = item-most ns 0 (omega arith) e in
     let high : getD ns 2 0 ≤ 20000 = item-most ns 2 (omega arith) e in
-    refuses-ranges (itemRanges ns) ns (omega arith) l e
+    ranges-below _ (itemRanges ns) ns (omega arith) l e

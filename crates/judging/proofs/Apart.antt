@@ -1,6 +1,6 @@
 -- A plan in two parts that share no used truck: the places where a rule on used trucks is broken are those of the one part and those of the
 -- other, and so are the used trucks.
-use mathlib.Core.Path.{_≡_, refl, sym, ap, ap₂, _∙_}
+use mathlib.Core.Path.{_≡_, refl, ap, ap₂, _∙_}
 use mathlib.Core.Bool.{Bool, false, not, _&&_, _||_, or-false}
 use mathlib.Core.List.{List, [], _++_, map, flatMap, append-nil, map-append}
 use lib.Dec.{eqb}
@@ -10,8 +10,7 @@ use Rattle.meaning.specs.Places.{place}
 use Rattle.meaning.specs.Model.{Instance, Truck, Stack, truckNumbered, number, x}
 use Rattle.meaning.specs.Measures.{UsedTruck, usedBy, sameUsed, usedTrucks, stacksOn, another, departures, stacksAt, supplierOrder}
 use Rattle.meaning.specs.Rules.{pairPlaces, stackPlaces, truckPlaces, departurePlaces, counts, braced, braces, noAmount}
-use Rattle.meaning.proofs.Tests.{same-test}
-use Rattle.meaning.proofs.Lists.{any-none, filter-none, any-append, filter-append, dedup-append, in-map, flatMap-none, flatMap-append, flatMap-agree}
+use Rattle.meaning.proofs.Lists.{any-none, filter-none, any-append, filter-append, dedup-append, same-turned, in-map, flatMap-none, flatMap-append, flatMap-agree}
 use Rattle.meaning.proofs.RuleKinds.{used-reads}
 use Rattle.meaning.proofs.Levers.{in-used}
 use Rattle.judging.specs.Judging.{truckRulePlaces}
@@ -25,16 +24,13 @@ module _ {A B : Type 0} where
       → flatMap g (l ++ l′) ≡ flatMap h l ++ flatMap k l′
   in-parts g h k l l′ e f = flatMap-append g l l′ ∙ ap₂ _++_ (flatMap-agree g h l e) (flatMap-agree g k l′ f)
 
-same-turned : (u v : UsedTruck) → sameUsed u v ≡ sameUsed v u
-same-turned u v = same-test (sameUsed u v) (sameUsed v u) ((λ e. used-reads v u .1 (sym (used-reads u v .0 e))), (λ e. used-reads u v .1 (sym (used-reads v u .0 e))))
-
 -- no used truck has stacks in both lists
 abbrev pub Apart : List Stack → List Stack → Type 0
 Apart l l′ = (s r : Stack) → In s l → In r l′ → sameUsed (usedBy s) (usedBy r) ≡ false
 
 module _ (i : Instance) (l l′ : List Stack) (apart : Apart l l′) where
   turned : (r s : Stack) → In r l′ → In s l → sameUsed (usedBy r) (usedBy s) ≡ false
-  turned r s n m = same-turned (usedBy r) (usedBy s) ∙ apart s r m n
+  turned r s n m = same-turned sameUsed used-reads (usedBy r) (usedBy s) ∙ apart s r m n
 
   -- ---- pairs
   module _ (kept : Instance → Stack → Stack → Bool) where

@@ -12,7 +12,7 @@ use Rattle.meaning.specs.Model.{Instance, Stack, item, truckNumbered, truckOf, 
 use Rattle.meaning.specs.Measures.{UsedTruck, usedBy, usedTrucks}
 use Rattle.meaning.specs.Table.{stacksIn}
 use Rattle.meaning.specs.Verdict.{acceptance, daysEarly, transportCost, inventoryCost, cost}
-use Rattle.meaning.proofs.Lists.{drop-back}
+use Rattle.meaning.proofs.Lists.{drop-back, Down, down-start, down-more, down-end}
 use Rattle.meaning.proofs.Sums.{sum-drop, sum-constant}
 use Rattle.meaning.proofs.Permute.{length-perm, sum-perm}
 use Rattle.meaning.proofs.VerdictOrder.{usedTrucks-perm}
@@ -27,37 +27,30 @@ use Rattle.judging.proofs.Apart.{used-apart}
 -- ---- a sum, counted down
 -- the terms of the elements from j on, of which none is above its bound
 pub record Summed {A : Type 0} (term bound : A → ℕ) (l : List A) (j total : ℕ) : Type 0 where
-  pub upto : j ≤ length l
-  pub is : total ≡ sum term (drop j l)
+  pub down : Down (sum term) l j total
   pub few : total ≤ sum bound (drop j l)
 
 module _ {A : Type 0} {term bound : A → ℕ} {l : List A} where
   pub summed-start : {j : ℕ} → j ≡ length l → Summed term bound l j 0
   unfolding sum
-  summed-start {j} e =
-      let h : length l ≤ j = omega arith in
-      record { upto = omega arith; is = rw (drop-of-length-le l h) refl; few = omega arith }
+  summed-start e = record { down = down-start e refl; few = omega arith }
 
   -- one element more
   pub summed-more : (d : A) {j total r : ℕ} → Summed term bound l j total → 0 < j → r ≡ term (getD l (j - 1) d) → r ≤ bound (getD l (j - 1) d)
       → Summed term bound l (j - 1) (r + total)
   unfolding sum
-  summed-more d {j} {total} {r} h k e b =
-      let split = drop-back l j d k (h .upto) in
+  summed-more d {j} h k e b =
       record {
-        upto = omega arith;
-        is = omega (arith, ap (sum term) split);
-        few = omega (arith, ap (sum bound) split);
+        down = down-more d (h .down) k (omega (arith, h .down .is));
+        few = omega (arith, ap (sum bound) (drop-back l j d k (h .down .upto)));
       }
 
   pub summed-room : (d : A) {j total r : ℕ} → Summed term bound l j total → 0 < j → r ≤ bound (getD l (j - 1) d) → r + total ≤ sum bound l
   unfolding sum
-  summed-room d {j} h k b = omega (arith, ap (sum bound) (drop-back l j d k (h .upto)), sum-drop bound (j - 1) l)
+  summed-room d {j} h k b = omega (arith, ap (sum bound) (drop-back l j d k (h .down .upto)), sum-drop bound (j - 1) l)
 
   pub summed-end : {j total : ℕ} → Summed term bound l j total → j ≤ 0 → (total ≡ sum term l) × (total ≤ sum bound l)
-  summed-end {j} h k =
-      let e : j ≡ 0 = omega arith in
-      (h .is ∙ rw e refl, omega (arith, sum-drop bound j l))
+  summed-end {j} h k = (down-end (h .down) k, omega (arith, sum-drop bound j l))
 
 -- ---- the inventory cost
 -- "IC × (IDL − TDA)" of an item of a stack

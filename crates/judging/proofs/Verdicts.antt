@@ -15,8 +15,7 @@ use Rattle.meaning.specs.Rules as meant
 use Rattle.meaning.specs.Rules.{rules, itemRules, stackRules, placementRules, weightRules, notOnce}
 use Rattle.meaning.specs.Verdict.{refusal, brokenOr, firstBroken, verdictOn, acceptance, cost}
 use Rattle.meaning.specs.Measures.{usedTrucks}
-use Rattle.meaning.proofs.Lists.{upFrom-at}
-use Rattle.table.proofs.Parts.{map-at}
+use Rattle.meaning.proofs.Lists.{map-at, upFrom-at}
 use Rattle.search.specs.Lowest.{foundOf, lowestIn}
 use Rattle.search.specs.declared.Found.{Found}
 use Rattle.search.specs.declared.Found.the-variants.{At, Nothing}

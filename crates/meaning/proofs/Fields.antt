@@ -5,11 +5,12 @@ use mathlib.Core.List.{List, [], _∷_}
 use Prim.Native.Nat.{ℕ, zero, suc, _≤_, _<_}
 use native.Mathlib.Omega.{arith}
 use lib.ListN.{length, getD}
-use Rattle.meaning.specs.Lists.{between, listed}
+use Rattle.meaning.specs.Lists.{Every, all, between, listed}
 use Rattle.meaning.specs.Model.{Item, stackNumber}
 use Rattle.meaning.specs.Files.{Range, _to_, allWithin, itemRanges, itemLine, truckRanges, truckLine, stackRanges, stackLine}
 use Rattle.meaning.specs.InRange.{Meets}
 use Rattle.meaning.proofs.Tests.{and-reads, between-reads}
+use Rattle.meaning.proofs.Lists.{every-reads, all-reads, every-at, every-place}
 
 -- a number lies in a range
 abbrev pub Within : Range → ℕ → Type 0
@@ -24,7 +25,19 @@ field-within (r ∷ rs) (n ∷ ns) zero e h l = between-reads (r .low) (r .high)
 field-within (r ∷ rs) (n ∷ ns) (suc k) e h l =
     field-within rs ns k (and-reads (between (r .low) (r .high) n) (allWithin rs ns) .0 e .1) (omega arith) (omega arith)
 
--- so does each field of an item, of a truck and of a stack
+-- so the numbers are below whatever the upper ends are below, where each has a range of its own
+pub ranges-below : (end : ℕ) (rs : List Range) (ns : List ℕ) → Every (λ (r : Range). r .high < end) rs → length ns ≤ length rs → allWithin rs ns ≡ true
+    → Every (λ n. n < end) ns
+ranges-below end rs ns h l e =
+    every-place (λ n. n < end) 0 ns (λ k m.
+    omega (arith, field-within rs ns k e (omega arith) m, every-at (λ (r : Range). r .high < end) rs (0 to 0) k h (omega arith)))
+
+-- and where all have one
+pub range-below : (end low high : ℕ) (ns : List ℕ) → high < end → all (between low high) ns ≡ true → Every (λ n. n < end) ns
+range-below end low high ns h e =
+    every-reads (λ n. n < end) ns .1 (λ n m. omega (arith, between-reads low high n .0 (all-reads (between low high) ns .0 e n m)))
+
+-- each field of an item, of a truck and of a stack is in its range
 pub item-within : (a : Item) → Meets itemLine a → (k : ℕ) → k < 16 → Within (getD (itemRanges a) k (0 to 0)) (getD a k 0)
 item-within a h k l = field-within (itemRanges a) a k (h .fits) l (omega (arith, h .least))
 

@@ -9,10 +9,10 @@ use native.Mathlib.Numerals.{add-one}
 use native.Mathlib.Omega.{arith}
 use borrow.Author.Tests.{eqb-true, eq-eqb}
 use lib.Dec.{eqb}
-use lib.ListN.{length, getD, drop}
+use lib.ListN.{length, getD, take, drop, take-append-drop, drop-of-length-le}
 use lib.Seq.{drop-cons}
 use Rattle.meaning.specs.Lists.{any, all, filter, dedup, onlyIf, upFrom, In, Every, listed, distinct}
-use Rattle.meaning.proofs.Tests.{true≢false, and-reads, or-reads, not-reads, iff-trans, iff-both, iff-not}
+use Rattle.meaning.proofs.Tests.{true≢false, and-reads, or-reads, not-reads, same-test, iff-trans, iff-both, iff-not}
 
 module _ {A : Type 0} where
   pub no-cons : (a : A) (l : List A) → (a ∷ l) ≡ [] → ⊥
@@ -56,20 +56,21 @@ module _ {A : Type 0} where
         (⊎-elim (λ q. inl (subst (λ (a : A). test a ≡ true) q (w .2))) (λ m. inr (any-reads test l .1 (w .0, m, w .2))) (w .1))),
   )
 
-  pub all-reads : (test : A → Bool) (l : List A) → (all test l ≡ true) ↔ ((a : A) → In a l → test a ≡ true)
-  unfolding all
-  all-reads test [] = ((λ e a m. absurd m), (λ f. refl))
-  all-reads test (b ∷ l) = (
-    (λ e a. let h = and-reads (test b) (all test l) .0 e in ⊎-elim (λ q. ap test q ∙ h .0) (λ m. all-reads test l .0 (h .1) a m)),
-    (λ f. and-reads (test b) (all test l) .1 (f b (inl refl), all-reads test l .1 (λ a m. f a (inr m)))),
-  )
-
   pub every-reads : (P : A → Type 0) (l : List A) → Every P l ↔ ((a : A) → In a l → P a)
   every-reads P [] = ((λ h a m. absurd m), (λ f. tt))
   every-reads P (b ∷ l) = (
     (λ h a. ⊎-elim (λ q. subst P (sym q) (h .0)) (λ m. every-reads P l .0 (h .1) a m)),
     (λ f. (f b (inl refl), every-reads P l .1 (λ a m. f a (inr m)))),
   )
+
+  -- all pass a test exactly when every one has what the test reads
+  pub all-every : (test : A → Bool) (P : A → Type 0) → ((a : A) → (test a ≡ true) ↔ P a) → (l : List A) → (all test l ≡ true) ↔ Every P l
+  unfolding all
+  all-every test P reads [] = ((λ e. tt), (λ h. refl))
+  all-every test P reads (a ∷ l) = iff-trans (and-reads (test a) (all test l)) (iff-both (reads a) (all-every test P reads l))
+
+  pub all-reads : (test : A → Bool) (l : List A) → (all test l ≡ true) ↔ ((a : A) → In a l → test a ≡ true)
+  all-reads test l = iff-trans (all-every test (λ a. test a ≡ true) (λ a. ((λ e. e), (λ e. e))) l) (every-reads (λ a. test a ≡ true) l)
 
   pub every-append : (P : A → Type 0) (l l′ : List A) → Every P (l ++ l′) ↔ (Every P l × Every P l′)
   every-append P [] l′ = ((λ h. (tt, h)), (λ h. h .1))
@@ -82,12 +83,7 @@ module _ {A : Type 0} where
   every-map P Q f [] h = tt
   every-map P Q f (a ∷ l) h = (f a (h .0), every-map P Q f l (h .1))
 
-  -- the element at a place
-  pub every-at : (P : A → Type 0) (l : List A) (d : A) (n : ℕ) → Every P l → n < length l → P (getD l n d)
-  every-at P [] d n h k = absurd (omega arith)
-  every-at P (a ∷ l) d zero h k = h .0
-  every-at P (a ∷ l) d (suc n) h k = every-at P l d n (h .1) (omega arith)
-
+  -- ---- the element at a place
   pub at-in : (l : List A) (d : A) (n : ℕ) → n < length l → In (getD l n d) l
   at-in [] d n k = absurd (omega arith)
   at-in (a ∷ l) d zero k = inl refl
@@ -97,6 +93,30 @@ module _ {A : Type 0} where
   in-at d [] a m = absurd m
   in-at d (b ∷ l) a (inl e) = (0, omega arith, e)
   in-at d (b ∷ l) a (inr m) = let w = in-at d l a m in (suc (w .0), omega (arith, w .1), w .2)
+
+  -- what holds of every element, at every place
+  module _ (P : A → Type 0) where
+    pub every-at : (l : List A) (d : A) (n : ℕ) → Every P l → n < length l → P (getD l n d)
+    every-at l d n h k = every-reads P l .0 h (getD l n d) (at-in l d n k)
+
+    -- also at places behind the last, where it holds of what stands in for an element
+    pub every-or : (d : A) → P d → (l : List A) → Every P l → (n : ℕ) → P (getD l n d)
+    every-or d p [] h n = p
+    every-or d p (a ∷ l) h zero = h .0
+    every-or d p (a ∷ l) h (suc n) = every-or d p l (h .1) n
+
+    pub every-place : (d : A) (l : List A) → ((n : ℕ) → n < length l → P (getD l n d)) → Every P l
+    every-place d l h = every-reads P l .1 (λ a m. let w = in-at d l a m in rw (w .2) (h (w .0) (w .1)))
+
+    -- and of every element of a part
+    pub every-take : (n : ℕ) (l : List A) → Every P l → Every P (take n l)
+    every-take n l h = every-append P (take n l) (drop n l) .0 (rw (take-append-drop n l) h) .0
+
+    pub every-drop : (n : ℕ) (l : List A) → Every P l → Every P (drop n l)
+    every-drop n l h = every-append P (take n l) (drop n l) .0 (rw (take-append-drop n l) h) .1
+
+    pub every-filter : (test : A → Bool) (l : List A) → Every P l → Every P (filter test l)
+    every-filter test l h = every-reads P (filter test l) .1 (λ a m. every-reads P l .0 h a (in-filter test l a .0 m .0))
 
   -- ---- the rest of a list from a place on: the element there, and the rest behind it
   module _ (l : List A) (j : ℕ) (d : A) where
@@ -109,6 +129,23 @@ module _ {A : Type 0} where
         let inside : j - 1 < length l = omega arith in
         let next : suc (j - 1) ≡ j = omega arith in
         drop-cons l (j - 1) d inside ∙ ap (λ (n : ℕ). getD l (j - 1) d ∷ drop n l) next
+
+  -- a value that is worked out on the way down, as a definition by the first element has it
+  pub record Down {B : Type 0} (value : List A → B) (l : List A) (j : ℕ) (v : B) : Type 0 where
+    pub upto : j ≤ length l
+    pub is : v ≡ value (drop j l)
+
+  module _ {B : Type 0} {value : List A → B} {l : List A} where
+    pub down-start : {j : ℕ} {v : B} → j ≡ length l → v ≡ value [] → Down value l j v
+    down-start {j} e is =
+        let k : length l ≤ j = omega arith in
+        record { upto = omega arith; is = is ∙ ap value (sym (drop-of-length-le l k)) }
+
+    pub down-more : (d : A) {j : ℕ} {u v : B} → Down value l j u → 0 < j → v ≡ value (getD l (j - 1) d ∷ drop j l) → Down value l (j - 1) v
+    down-more d {j} h k e = record { upto = omega (arith, h .upto); is = e ∙ ap value (sym (drop-back l j d k (h .upto))) }
+
+    pub down-end : {j : ℕ} {v : B} → Down value l j v → j ≤ 0 → v ≡ value l
+    down-end {j} h k = let e : j ≡ 0 = omega arith in h .is ∙ ap (λ n. value (drop n l)) e
 
   -- ---- no element
   pub append-none : (l l′ : List A) → (l ++ l′ ≡ []) ↔ ((l ≡ []) × (l′ ≡ []))
@@ -136,6 +173,12 @@ module _ {A : Type 0} where
   unfolding filter
   filter-none test [] none = refl
   filter-none test (a ∷ l) none = rw (none a (inl refl)) (filter-none test l (λ b m. none b (inr m)))
+
+  -- and every element passes it
+  pub filter-all : (test : A → Bool) (l : List A) → Every (λ (a : A). test a ≡ true) l → filter test l ≡ l
+  unfolding filter
+  filter-all test [] h = refl
+  filter-all test (a ∷ l) h = rw (h .0, filter-all test l (h .1)) refl
 
   -- ---- two lists, one behind the other
   pub any-append : (test : A → Bool) (l l′ : List A) → any test (l ++ l′) ≡ (any test l || any test l′)
@@ -170,6 +213,15 @@ module _ {A : Type 0} where
       go true e = e
       go false e = ap (λ (z : List A). a ∷ z) e
 
+  pub dedup-most : (same : A → A → Bool) (l : List A) → length (dedup same l) ≤ length l
+  unfolding dedup
+  dedup-most same [] = omega arith
+  dedup-most same (a ∷ l) = go (dedup-most same l) (any (same a) l)
+    where
+      go : length (dedup same l) ≤ length l → (t : Bool) → length (cond t (dedup same l) (a ∷ dedup same l)) ≤ suc (length l)
+      go rec true = omega arith
+      go rec false = omega arith
+
   -- no element stands twice
   abbrev pub NoRepeat : List A → Type 0
   NoRepeat [] = Unit {0}
@@ -177,6 +229,9 @@ module _ {A : Type 0} where
 
   -- ---- each element once, for a test that says when two are equal
   module _ (same : A → A → Bool) (reads : (a b : A) → (same a b ≡ true) ↔ (a ≡ b)) where
+    pub same-turned : (a b : A) → same a b ≡ same b a
+    same-turned a b = same-test (same a b) (same b a) ((λ e. reads b a .1 (sym (reads a b .0 e))), (λ e. reads a b .1 (sym (reads b a .0 e))))
+
     pub any-same : (a : A) (l : List A) → (any (same a) l ≡ true) ↔ In a l
     any-same a l = (
       (λ e. let w = any-reads (same a) l .0 e in subst (λ (z : A). In z l) (sym (reads a (w .0) .0 (w .2))) (w .1)),
@@ -221,6 +276,11 @@ module _ {A B : Type 0} where
     ⊎-elim (λ e. (c, inl refl, e)) (λ m. let w = in-map f l b .0 m in (w .0, inr (w .1), w .2)),
     (λ w. ⊎-elim (λ q. inl (w .2 ∙ ap f q)) (λ m. inr (in-map f l b .1 (w .0, m, w .2))) (w .1)),
   )
+
+  pub map-at : (f : A → B) (l : List A) (k : ℕ) (d : A) (e : B) → k < length l → getD (map f l) k e ≡ f (getD l k d)
+  map-at f [] k d e h = absurd (omega arith)
+  map-at f (a ∷ l) zero d e h = refl
+  map-at f (a ∷ l) (suc k) d e h = map-at f l k d e (omega arith)
 
   pub flatMap-none : (g : A → List B) (l : List A) → (flatMap g l ≡ []) ↔ ((a : A) → In a l → g a ≡ [])
   unfolding flatMap
@@ -274,3 +334,9 @@ unfolding upFrom
 upFrom-at a zero k d h = absurd (omega arith)
 upFrom-at a (suc n) zero d h = omega arith
 upFrom-at a (suc n) (suc k) d h = omega (arith, upFrom-at (suc a) n k d (omega arith))
+
+-- the elements of a list, place by place
+pub map-upFrom : {A : Type 0} (l : List A) (d : A) (a n : ℕ) → a + n ≤ length l → map (λ k. getD l k d) (upFrom a n) ≡ take n (drop a l)
+unfolding upFrom
+map-upFrom l d a zero h = refl
+map-upFrom l d a (suc n) h = rw (drop-cons l a d (omega arith)) (ap (λ r. getD l a d ∷ r) (map-upFrom l d (suc a) n (omega arith)))

@@ -8,11 +8,12 @@ use native.Mathlib.Decide.{decLe}
 use native.Mathlib.Omega.{arith}
 use borrow.Author.Tests.{eqb-true, eqb-false}
 use lib.Dec.{eqb}
-use lib.ListN.{getD, take}
+use lib.ListN.{length, getD, take, drop, take-append-drop}
+use lib.Seq.{take-take}
 use Rattle.meaning.specs.Lists.{In, listed, distinct, orderFrom, orderIn, between}
 use Rattle.meaning.specs.Feasible.{Stands, Placed}
 use Rattle.meaning.proofs.Tests.{between-reads, same-test}
-use Rattle.meaning.proofs.Lists.{NoRepeat, at-in, listed-reads, distinct-reads}
+use Rattle.meaning.proofs.Lists.{NoRepeat, in-append, at-in, listed-reads, distinct-reads}
 
 -- ---- places in a list with one more entry at its front
 pub stands-first : (n : ℕ) (l : List ℕ) → Stands (n ∷ l) n 1
@@ -69,6 +70,10 @@ pub order-stands : (l : List ℕ) (n : ℕ) → In n l → Stands l n (orderIn l
 order-stands l n m =
     ⊎-elim (λ k. absurd (k .0 m)) (λ k. let e : k .0 ≡ orderIn l n = omega (arith, k .2) in subst (Stands l n) e (k .1)) (order-cases 1 n l)
 
+-- a loading order goes up to the length of its list
+pub order-most : (most : ℕ) (l : List ℕ) (n : ℕ) → length l ≤ most → orderIn l n ≤ most
+order-most most l n few = ⊎-elim (λ k. omega (arith, k .1)) (λ k. omega (arith, k .2, k .1 .upTo)) (order-cases 1 n l)
+
 -- in a list without repeats an entry stands at one place
 pub stands-once : (l : List ℕ) (n j k : ℕ) → NoRepeat l → Stands l n j → Stands l n k → j ≡ k
 stands-once [] n j k d h h′ = absurd (omega (arith, h .from, h .upTo))
@@ -110,22 +115,11 @@ in-take (m ∷ l) n zero j h le = absurd (omega (arith, h .from))
 in-take (m ∷ l) n (suc k) j h le = ⊎-elim (λ w. inl (sym (w .1))) (λ w. inr (in-take l n k (w .0) (w .2) (omega (arith, w .1)))) (stands-cases m l n j h)
 
 take-in : (l : List ℕ) (n k : ℕ) → In n (take k l) → In n l
-take-in [] n zero m = m
-take-in [] n (suc k) m = m
-take-in (b ∷ l) n zero m = absurd m
-take-in (b ∷ l) n (suc k) (inl e) = inl e
-take-in (b ∷ l) n (suc k) (inr m) = inr (take-in l n k m)
+take-in l n k m = rw (take-append-drop k l) at (in-append n (take k l) (drop k l) .1 (inl m))
 
 -- the entries of the first k places, where k goes up
 take-more : (l : List ℕ) (n j k : ℕ) → j ≤ k → In n (take j l) → In n (take k l)
-take-more [] n zero zero h m = m
-take-more [] n zero (suc k) h m = m
-take-more [] n (suc j) zero h m = m
-take-more [] n (suc j) (suc k) h m = m
-take-more (b ∷ l) n zero k h m = absurd m
-take-more (b ∷ l) n (suc j) zero h m = absurd (omega arith)
-take-more (b ∷ l) n (suc j) (suc k) h (inl e) = inl e
-take-more (b ∷ l) n (suc j) (suc k) h (inr m) = inr (take-more l n j k (omega arith) m)
+take-more l n j k h m = take-in (take k l) n j (rw (take-take j k l h) m)
 
 -- an entry's order is one of 1 to k exactly when it is among the first k
 pub order-take : (l : List ℕ) (n k : ℕ) → between 1 k (orderIn l n) ≡ listed n (take k l)

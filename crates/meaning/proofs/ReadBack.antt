@@ -123,7 +123,7 @@ shaped-number ds h =
 
 -- at most ten digits
 abbrev pub TenDigits : ℕ → Type 0
-TenDigits n = n ≤ 9999999999
+TenDigits n = n < 10000000000
 
 number-read : (n : ℕ) → TenDigits n → number (digits n) ≡ some n
 unfolding number digitsOnto tens decimalFrom

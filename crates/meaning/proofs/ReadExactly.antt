@@ -20,36 +20,19 @@ use Rattle.meaning.specs.Print.{printedLine, printedTruck, printedInstan
 use Rattle.meaning.specs.InRange.{Meets, TruckInRange, InstanceInRange, StacksInRange, InRange}
 use Rattle.meaning.specs.Claims.{Readable, TenDigitLimits, ReadExactly}
 use Rattle.meaning.proofs.Tests.{and-reads, between-reads}
-use Rattle.meaning.proofs.Lists.{all-reads, every-reads, every-map}
-use Rattle.meaning.proofs.Fields.{item-within}
+use Rattle.meaning.proofs.Lists.{every-map}
+use Rattle.meaning.proofs.Fields.{item-within, ranges-below, range-below}
 use Rattle.meaning.proofs.Outcomes.{Finds, finds-ended}
 use Rattle.meaning.proofs.ReadFiles.{Wholly, read-reads}
 use Rattle.meaning.proofs.Printed.{read-printed}
 use Rattle.meaning.proofs.Ranges.{read-in-range}
 use Rattle.meaning.proofs.ReadBack.{line-one, TenDigits, line-read}
 
--- ---- entries in range have at most ten digits
--- the first number is at most the upper end of its range, and the others are in theirs
-within-front : (r : Range) (rs : List Range) (n : ℕ) (ns : List ℕ) → allWithin (r ∷ rs) (n ∷ ns) ≡ true → (n ≤ r .high) × (allWithin rs ns ≡ true)
-unfolding allWithin
-within-front r rs n ns h =
-    let t = and-reads (between (r .low) (r .high) n) (allWithin rs ns) .0 h in (between-reads (r .low) (r .high) n .0 (t .0) .1, t .1)
-
+-- ---- forms whose lines are read back
 -- every upper end has at most ten digits
 abbrev TenDigitEnds : List Range → Type 0
 TenDigitEnds rs = Every (λ (r : Range). TenDigits (r .high)) rs
 
--- then so has every number, where each has a range of its own, and where all have one
-within-ten : (rs : List Range) (ns : List ℕ) → TenDigitEnds rs → length ns ≤ length rs → allWithin rs ns ≡ true → Every TenDigits ns
-within-ten rs [] e l h = tt
-within-ten [] (n ∷ ns) e l h = absurd (omega arith)
-within-ten (r ∷ rs) (n ∷ ns) e l h = let t = within-front r rs n ns h in (omega (arith, t .0, e .0), within-ten rs ns (e .1) (omega arith) (t .1))
-
-all-ten : (low high : ℕ) (ns : List ℕ) → TenDigits high → all (between low high) ns ≡ true → Every TenDigits ns
-all-ten low high ns e h =
-    every-reads TenDigits ns .1 (λ n i. omega (arith, between-reads low high n .0 (all-reads (between low high) ns .0 h n i) .1))
-
--- ---- forms whose lines are read back
 -- the key has no byte 10, and a line has entries, of at most ten digits
 record Plain (f : Form) : Type 0 where
   oneLine : OneLine (bytes (f .key))
@@ -58,14 +41,14 @@ record Plain (f : Form) : Type 0 where
 
 -- lines with a range for each entry, and lines of identifiers
 plain-row : (key : String) (rs : List Range) → OneLine (bytes key) → 1 ≤ length rs → TenDigitEnds rs → Plain (rowLine key rs)
-plain-row key rs o l e = record { oneLine = o; entries = l; digits = λ ns h. within-ten rs ns e (h .most) (h .fits) }
+plain-row key rs o l e = record { oneLine = o; entries = l; digits = λ ns h. ranges-below _ rs ns e (h .most) (h .fits) }
 
 plain-identifiers : (key : String) (most : ℕ) → OneLine (bytes key) → Plain (identifiersLine key most)
 plain-identifiers key most o =
     record {
       oneLine = o;
       entries = omega arith;
-      digits = λ ns h. all-ten 1 65535 ns (omega arith) (and-reads (all (between 1 65535) ns) (distinct ns) .0 (h .fits) .0);
+      digits = λ ns h. range-below _ 1 65535 ns (omega arith) (and-reads (all (between 1 65535) ns) (distinct ns) .0 (h .fits) .0);
     }
 
 -- an item's width ends at its length, and its nesting height below its height: these two are in range themselves
@@ -77,7 +60,7 @@ plain-item = record { oneLine = refl; entries = omega arith; digits = ten }
     ten a h =
         let long : IL a ≤ 20000 = item-within a h 0 (omega arith) .1 in
         let high : IH a ≤ 20000 = item-within a h 2 (omega arith) .1 in
-        within-ten (itemRanges a) a (omega arith) (h .most) (h .fits)
+        ranges-below _ (itemRanges a) a (omega arith) (h .most) (h .fits)
 
 plain-truck : Plain truckLine
 unfolding any
@@ -92,7 +75,7 @@ plain-stack trucks taken e =
       entries = omega arith;
       digits =
           λ ns h.
-          within-ten (stackRanges trucks) ns (omega arith) (h .most)
+          ranges-below _ (stackRanges trucks) ns (omega arith) (h .most)
           (and-reads (allWithin (stackRanges trucks) ns) (not (listed (stackNumber ns) taken)) .0 (h .fits) .0);
     }
 
@@ -102,7 +85,7 @@ plain-load most items held e =
     record {
       oneLine = refl;
       entries = omega arith;
-      digits = λ ns h. all-ten 1 items ns e (and-reads (all (between 1 items) ns) (leb (held + length ns) most) .0 (h .fits) .0);
+      digits = λ ns h. range-below _ 1 items ns e (and-reads (all (between 1 items) ns) (leb (held + length ns) most) .0 (h .fits) .0);
     }
 
 -- ---- what a reader finds in a text
@@ -168,8 +151,8 @@ reads-instance m few i h =
     reads-then _ (reads-number "transport=" (0 to 1000) (i .αT) refl (omega arith) (omega arith) (h .αT))
     (reads-then _ (reads-number "inventory=" (0 to 1000) (i .αI) refl (omega arith) (omega arith) (h .αI))
     (reads-then _ (reads-number "extra=" (0 to 1000) (i .αE) refl (omega arith) (omega arith) (h .αE))
-    (reads-then _ (reads-number "items=" (1 to m .items) (length (i .items)) refl (few .items) (h .someItem) (h .itemCount))
-    (reads-then _ (reads-number "trucks=" (1 to m .trucks) (length (i .trucks)) refl (few .trucks) (h .someTruck) (h .truckCount))
+    (reads-then _ (reads-number "items=" (1 to m .items) (length (i .items)) refl (omega (arith, few .items)) (h .someItem) (h .itemCount))
+    (reads-then _ (reads-number "trucks=" (1 to m .trucks) (length (i .trucks)) refl (omega (arith, few .trucks)) (h .someTruck) (h .truckCount))
     (reads-then _ (reads-lines (i .items) plain-item (h .items))
     (reads-last _ (reads-times printedTruck truckLines (i .trucks) (every-map TruckInRange _ reads-truck (i .trucks) (h .trucks)))))))))
 
@@ -192,7 +175,7 @@ reads-plan m few i p h =
     let trucks = length (i .trucks) in
     let fewItems : TenDigits items = omega (arith, few .items, h .instance .itemCount) in
     let fewTrucks : TenDigits trucks = omega (arith, few .trucks, h .instance .truckCount) in
-    reads-then _ (reads-number "stacks=" (0 to m .stacks) (length p) refl (few .stacks) (omega arith) (h .stackCount))
+    reads-then _ (reads-number "stacks=" (0 to m .stacks) (length p) refl (omega (arith, few .stacks)) (omega arith) (h .stackCount))
     (reads-stacks (m .loads) items trucks fewItems fewTrucks [] 0 p (h .stacks))
 
 -- ---- both files

@@ -11,17 +11,17 @@ use Rattle.meaning.specs.Lists.{In, filter, sum}
 module _ {A : Type 0} where
   -- ---- fewer terms
   module _ (f : A → ℕ) where
-    pub sum-take : (n : ℕ) (l : List A) → sum f (take n l) ≤ sum f l
+    sum-parts : (n : ℕ) (l : List A) → sum f (take n l) + sum f (drop n l) ≡ sum f l
     unfolding sum
-    sum-take zero l = omega arith
-    sum-take (suc n) [] = omega arith
-    sum-take (suc n) (a ∷ l) = omega (arith, sum-take n l)
+    sum-parts zero l = omega arith
+    sum-parts (suc n) [] = omega arith
+    sum-parts (suc n) (a ∷ l) = omega (arith, sum-parts n l)
+
+    pub sum-take : (n : ℕ) (l : List A) → sum f (take n l) ≤ sum f l
+    sum-take n l = omega (arith, sum-parts n l)
 
     pub sum-drop : (n : ℕ) (l : List A) → sum f (drop n l) ≤ sum f l
-    unfolding sum
-    sum-drop zero l = omega arith
-    sum-drop (suc n) [] = omega arith
-    sum-drop (suc n) (a ∷ l) = omega (arith, sum-drop n l)
+    sum-drop n l = omega (arith, sum-parts n l)
 
     pub sum-filter : (test : A → Bool) (l : List A) → sum f (filter test l) ≤ sum f l
     unfolding sum filter
@@ -55,7 +55,11 @@ module _ {A : Type 0} where
   sum-factor k f [] = omega arith
   sum-factor k f (a ∷ l) = omega (arith, sum-factor k f l)
 
-  -- ---- how long the lists of all elements are together
+  -- ---- how long a list is: no longer with fewer elements
+  pub filter-most : (test : A → Bool) (l : List A) → length (filter test l) ≤ length l
+  filter-most test l = omega (arith, sum-filter (λ (a : A). 1) test l, sum-constant 1 (filter test l), sum-constant 1 l)
+
+  -- and the lists of all elements together
   pub length-flatMap : {B : Type 0} (g : A → List B) (l : List A) → length (flatMap g l) ≡ sum (λ (a : A). length (g a)) l
   unfolding flatMap sum
   length-flatMap g [] = refl

@@ -15,8 +15,8 @@ use Rattle.meaning.specs.Measures.{bottom, xe, ye, another}
 use Rattle.meaning.specs.Places.{place}
 use Rattle.meaning.specs.Rules.{pairPlaces, plantDockCount, singlePair, disjoint, inLoadingOrder}
 use Rattle.meaning.specs.Claims.{Before}
-use Rattle.meaning.proofs.Tests.{true≢false, and-reads, not-reads, same-test}
-use Rattle.meaning.proofs.Lists.{in-onlyIf, in-flatMap}
+use Rattle.meaning.proofs.Tests.{true≢false, and-reads, not-reads, eq-reads}
+use Rattle.meaning.proofs.Lists.{in-onlyIf, same-turned, in-flatMap}
 use Rattle.meaning.proofs.RuleKinds.{another-reads}
 use Rattle.search.specs.declared.Found.the-variants.{At, Nothing}
 use Rattle.search.specs.Lowest.{lowestIn}
@@ -46,9 +46,6 @@ module _ (i : Instance) (s r : Stack) where
   both-two en n2 em m2 ec ec′ = rw (ec, ec′, eq-eqb (plantDockCount i s) 2 (rw en at n2), eq-eqb (plantDockCount i r) 2 (rw em at m2)) refl
 
 -- ---- rules that are the same for two stacks in both orders
-eqb-turned : (a b : ℕ) → eqb a b ≡ eqb b a
-eqb-turned a b = same-test (eqb a b) (eqb b a) ((λ e. eq-eqb b a (sym (eqb-true a b e))), (λ e. eq-eqb a b (sym (eqb-true b a e))))
-
 -- two tests each way
 pairs-turned : (a b c d : Bool) → (a || b || c || d) ≡ (b || a || d || c)
 pairs-turned true true c d = refl
@@ -61,7 +58,7 @@ pairs-turned false false false false = refl
 
 single-turned : (i : Instance) (s r : Stack) → singlePair i s r ≡ singlePair i r s
 single-turned i s r =
-    rw (and-comm (eqb (plantDockCount i s) 2) (eqb (plantDockCount i r) 2), eqb-turned (IS (bottom i s)) (IS (bottom i r))) refl
+    rw (and-comm (eqb (plantDockCount i s) 2) (eqb (plantDockCount i r) 2), same-turned eqb eq-reads (IS (bottom i s)) (IS (bottom i r))) refl
 
 pub disjoint-turned : (i : Instance) (s r : Stack) → disjoint i s r ≡ disjoint i r s
 disjoint-turned i s r = pairs-turned (leb (xe i s) (x r)) (leb (xe i r) (x s)) (leb (ye i s) (y r)) (leb (ye i r) (y s))

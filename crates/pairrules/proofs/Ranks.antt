@@ -2,18 +2,19 @@
 use mathlib.Core.Path.{_≡_, refl, sym, _∙_}
 use mathlib.Core.Logic.{_↔_}
 use mathlib.Core.Bool.{Bool, true, false, not, _&&_, _||_, or-true, or-false}
-use mathlib.Core.List.{List, [], _∷_, map}
+use mathlib.Core.List.{List, map}
 use Prim.Native.Nat.{ℕ, _≤_, _<_}
 use borrow.Author.Tests.{le-leb, lt-leb, eq-eqb, ne-eqb}
 use lib.Dec.{leb, ltb, eqb}
 use lib.ListN.{length, getD}
 use Rattle.meaning.specs.declared.Limits.{Limits}
-use Rattle.meaning.specs.Lists.{all, Every}
+use Rattle.meaning.specs.Lists.{all}
 use Rattle.meaning.specs.Model.{Instance, Stack, item, x}
 use Rattle.meaning.specs.Measures.{plantDockOrder}
 use Rattle.meaning.specs.Rules.{docksNotAfter, loadsBefore, inLoadingOrder}
 use Rattle.meaning.specs.Table.{instanceIn, stacksIn}
-use Rattle.meaning.proofs.Tests.{and-reads, le-reads, same-test, iff-trans, iff-sym, iff-both}
+use Rattle.meaning.proofs.Tests.{le-reads, same-test, iff-trans, iff-sym}
+use Rattle.meaning.proofs.Lists.{all-every}
 use Rattle.table.specs.Filled.{Filled}
 use Rattle.views.specs.declared.Rank.{Rank}
 use Rattle.views.specs.Views.{plantDockOrders, spanOf, rankOf}
@@ -37,12 +38,6 @@ one-supplier a b e = rw (eq-eqb (a .supplier) (b .supplier) e) refl
 
 -- ---- spans
 module _ {A : Type 0} where
-  -- all pass a test exactly when every one has what the test reads
-  all-every : (test : A → Bool) (P : A → Type 0) → ((a : A) → (test a ≡ true) ↔ P a) → (l : List A) → (all test l ≡ true) ↔ Every P l
-  unfolding all
-  all-every test P reads [] = ((λ e. tt), (λ h. refl))
-  all-every test P reads (a ∷ l) = iff-trans (and-reads (test a) (all test l)) (iff-both (reads a) (all-every test P reads l))
-
   -- numbers that are at most 8 are each at most each of others where the highest is at most the lowest of those
   all-spans : (f g : A → ℕ) → ((a : A) → f a ≤ 8) → (l l′ : List A)
       → all (λ a. all (λ b. leb (f a) (g b)) l′) l ≡ leb (spanOf (map f l) .highest) (spanOf (map g l′) .lowest)

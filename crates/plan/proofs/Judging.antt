@@ -14,10 +14,10 @@ use Rattle.meaning.specs.Reader.{Reader}
 use Rattle.meaning.specs.Files.{allWithin, stackRanges, stackLine, loadLine}
 use Rattle.meaning.specs.Model.{stackNumber}
 use Rattle.meaning.proofs.Tests.{and-reads}
+use Rattle.meaning.proofs.Fields.{ranges-below, range-below}
 use Rattle.lines.specs.declared.Progress.{Progress}
 use Rattle.lines.specs.declared.Progress.the-variants.{Next, WrongForm, OutOfRange}
 use Rattle.lines.specs.Progress.{entriesOf, Going, judgedAs, RefusesLargest, ReadEntries}
-use Rattle.lines.proofs.Largest.{refuses-between, refuses-ranges}
 use Rattle.plan.specs.Words.{spliced, rowNumbers}
 use Rattle.plan.proofs.Splices.{put-spliced, spliced-there, spliced-first}
 use Rattle.plan.proofs.Rows.{rows-kept}
@@ -25,11 +25,11 @@ use Rattle.plan.proofs.Rows.{rows-kept}
 -- ---- the largest word
 pub stack-refuses-largest : (trucks : ℕ) (taken : List ℕ) → trucks < 4294967295 → RefusesLargest (stackLine trucks taken)
 stack-refuses-largest trucks taken h ns l e =
-    refuses-ranges (stackRanges trucks) ns (omega arith) l (and-reads (allWithin (stackRanges trucks) ns) (not (listed (stackNumber ns) taken)) .0 e .0)
+    ranges-below _ (stackRanges trucks) ns (omega arith) l (and-reads (allWithin (stackRanges trucks) ns) (not (listed (stackNumber ns) taken)) .0 e .0)
 
 pub load-refuses-largest : (most items held : ℕ) → items < 4294967295 → RefusesLargest (loadLine most items held)
 load-refuses-largest most items held h ns l e =
-    refuses-between 1 items ns h (and-reads (all (between 1 items) ns) (leb (held + length ns) most) .0 e .0)
+    range-below _ 1 items ns h (and-reads (all (between 1 items) ns) (leb (held + length ns) most) .0 e .0)
 
 -- ---- a stack's row
 -- the test as it is made on the words, where the row was lent and came back

@@ -7,12 +7,12 @@ use mathlib.Core.List.{List, [], _∷_, _++_, flatMap}
 use Prim.Native.Nat.{ℕ, _-_, _≤_, _<_}
 use native.Mathlib.Omega.{arith}
 use lib.Dec.{ltb, eqb}
-use lib.ListN.{length, getD, drop, drop-of-length-le}
+use lib.ListN.{length, getD, drop}
 use Rattle.meaning.specs.declared.Place.{Place}
 use Rattle.meaning.specs.Lists.{In, onlyIf}
 use Rattle.meaning.specs.Places.{belowOr, lower, lowerOf, lowest}
 use Rattle.meaning.specs.Claims.{Before}
-use Rattle.meaning.proofs.Lists.{in-append, drop-back}
+use Rattle.meaning.proofs.Lists.{in-append, Down, down-start, down-more, down-end}
 use Rattle.meaning.proofs.Permute.{Same, same-refl}
 use Rattle.meaning.proofs.Lowest.{lowest-is, lowest-one, lowest-same}
 use Rattle.search.specs.Lowest.{foundOf, lowestIn, lowerFound}
@@ -128,27 +128,21 @@ lowest-append (p ∷ xs) ys =
 
 -- ---- a loop down a list
 -- `found` is the lowest of the places that the elements from j on have
-pub record Down {A : Type 0} (g : A → List Place) (l : List A) (j : ℕ) (found : Found) : Type 0 where
-  pub upto : j ≤ length l
-  pub is : found ≡ lowestIn (flatMap g (drop j l))
+pub record LowestFrom {A : Type 0} (g : A → List Place) (l : List A) (j : ℕ) (found : Found) : Type 0 where
+  pub down : Down (λ (r : List A). lowestIn (flatMap g r)) l j found
 
 module _ {A : Type 0} {g : A → List Place} {l : List A} where
-  pub down-start : {j : ℕ} → j ≡ length l → Down g l j Nothing
+  pub from-start : {j : ℕ} → j ≡ length l → LowestFrom g l j Nothing
   unfolding flatMap
-  down-start {j} e =
-      let h : length l ≤ j = omega arith in
-      record { upto = omega arith; is = rw (drop-of-length-le l h) (sym lowest-none) }
+  from-start e = record { down = down-start e (sym lowest-none) }
 
   -- one element more
-  pub down-more : (d : A) {j : ℕ} {e : A} {f found r : Found} → Down g l j found → 0 < j → e ≡ getD l (j - 1) d → f ≡ lowestIn (g e)
-      → r ≡ lowerFound f found → Down g l (j - 1) r
+  pub from-more : (d : A) {j : ℕ} {e : A} {f found r : Found} → LowestFrom g l j found → 0 < j → e ≡ getD l (j - 1) d → f ≡ lowestIn (g e)
+      → r ≡ lowerFound f found → LowestFrom g l (j - 1) r
   unfolding flatMap
-  down-more d {j} {e} {f} {found} {r} h k ee ef er =
+  from-more d {j} {f = f} h k ee ef er =
       let first : f ≡ lowestIn (g (getD l (j - 1) d)) = ef ∙ ap (λ (a : A). lowestIn (g a)) ee in
-      record {
-        upto = omega (arith, h .upto);
-        is = er ∙ rw (drop-back l j d k (h .upto), lowest-append (g (getD l (j - 1) d)) (flatMap g (drop j l))) (ap₂ lowerFound first (h .is));
-      }
+      record { down = down-more d (h .down) k (er ∙ ap₂ lowerFound first (h .down .is) ∙ sym (lowest-append (g (getD l (j - 1) d)) (flatMap g (drop j l)))) }
 
-  pub down-end : {j : ℕ} {found : Found} → Down g l j found → j ≤ 0 → found ≡ lowestIn (flatMap g l)
-  down-end {j} h k = let e : j ≡ 0 = omega arith in h .is ∙ rw e refl
+  pub from-end : {j : ℕ} {found : Found} → LowestFrom g l j found → j ≤ 0 → found ≡ lowestIn (flatMap g l)
+  from-end h k = down-end (h .down) k

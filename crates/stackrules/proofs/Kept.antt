@@ -12,7 +12,7 @@ use Rattle.meaning.proofs.Tests.{and-reads}
 use Rattle.search.specs.declared.Found.{Found}
 use Rattle.search.specs.declared.Found.the-variants.{Nothing}
 use Rattle.search.specs.Lowest.{lowestIn}
-use Rattle.search.proofs.Lowest.{Down, down-start, down-more, down-end, kept-at, empty-found, none-listed}
+use Rattle.search.proofs.Lowest.{LowestFrom, from-start, from-more, from-end, kept-at, empty-found, none-listed}
 use Rattle.visits.specs.Visits.{visitAt, visited}
 use Rattle.stackrules.specs.declared.ItemRule.{ItemRule}
 use Rattle.stackrules.specs.declared.ItemRule.the-variants.{Plant, Product, Supplier, Day, Dock, Mixed, Turned}
@@ -50,26 +50,26 @@ module _ (i : Instance) (s : Stack) (a : Item) where
 
 -- ---- the loop down a stack's items: those from j on have no place
 pub record DownLoad (i : Instance) (s : Stack) (j : ℕ) : Type 0 where
-  pub each : (rule : ItemRule) → Down (itemPlace (itemTest rule) i s) (s .load) j Nothing
+  pub each : (rule : ItemRule) → LowestFrom (itemPlace (itemTest rule) i s) (s .load) j Nothing
 
 module _ {i : Instance} {s : Stack} {j : ℕ} where
   pub load-start : j ≡ length (s .load) → DownLoad i s j
-  load-start e = record { each = λ rule. down-start e }
+  load-start e = record { each = λ rule. from-start e }
 
   module _ (h : DownLoad i s j) where
     pub load-inside : 0 < j → j - 1 < length (s .load)
-    load-inside more = omega (arith, h .each Plant .upto)
+    load-inside more = omega (arith, h .each Plant .down .upto)
 
     pub load-more : {n : ℕ} → 0 < j → n ≡ getD (s .load) (j - 1) 0 → ItemKept i s (item i n) → DownLoad i s (j - 1)
     unfolding itemPlace
     load-more {n} more en kept =
         record {
           each = λ rule.
-              down-more 0 (h .each rule) more en (kept-at (not (itemTest rule i s (item i n))) (place (number s) n 0) (rw (kept .each rule) refl)) refl;
+              from-more 0 (h .each rule) more en (kept-at (not (itemTest rule i s (item i n))) (place (number s) n 0) (rw (kept .each rule) refl)) refl;
         }
 
     pub load-end : j ≤ 0 → LoadKept i s
-    load-end none = record { each = λ rule. none-listed _ (item-places (itemTest rule) i s (down-end (h .each rule) none)) }
+    load-end none = record { each = λ rule. none-listed _ (item-places (itemTest rule) i s (from-end (h .each rule) none)) }
 
 -- ---- a stack, by its items and the answers of five searches
 pub none-found : (rule : StackRule) (i : Instance) (s : Stack) {found : Found} {nothing : Bool} → found ≡ lowestIn (placesOf rule i s)
@@ -101,7 +101,7 @@ module _ (i : Instance) (s : Stack) where
 
 -- ---- the loop down the visited stacks: those from k on have no place
 pub record DownStacks (i : Instance) (p : List Stack) (k : ℕ) : Type 0 where
-  pub each : (rule : StackRule) → Down (placesOf rule i) (visited p) k Nothing
+  pub each : (rule : StackRule) → LowestFrom (placesOf rule i) (visited p) k Nothing
 
 module _ {i : Instance} {p : List Stack} {k : ℕ} where
   pub stacks-start : k ≡ length p → DownStacks i p k

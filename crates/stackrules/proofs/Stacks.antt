@@ -18,7 +18,7 @@ use Rattle.table.specs.Filled.{noStack, stackAt}
 use Rattle.search.specs.declared.Found.{Found}
 use Rattle.search.specs.declared.Found.the-variants.{Nothing}
 use Rattle.search.specs.Lowest.{lowestIn, lowerFound}
-use Rattle.search.proofs.Lowest.{Down, down-start, down-more, down-end, lowest-members}
+use Rattle.search.proofs.Lowest.{LowestFrom, from-start, from-more, from-end, lowest-members}
 use Rattle.views.specs.declared.Footprint.{Footprint}
 use Rattle.views.specs.declared.Size.{Size}
 use Rattle.views.specs.Views.{footprintOf, sizeOf, spanOf, plantDockOrders}
@@ -101,21 +101,21 @@ places-alone Outside i p = stacks-alone (λ j. inside j []) exceededSide i p
 
 -- ---- the loop down the visited stacks
 module _ {g : Stack → List Place} (p : List Stack) {k : ℕ} where
-  pub visit-start : k ≡ length p → Down g (visited p) k Nothing
-  visit-start e = down-start (e ∙ sym (visited-length p))
+  pub visit-start : k ≡ length p → LowestFrom g (visited p) k Nothing
+  visit-start e = from-start (e ∙ sym (visited-length p))
 
-  module _ {found : Found} (h : Down g (visited p) k found) (more : 0 < k) where
+  module _ {found : Found} (h : LowestFrom g (visited p) k found) (more : 0 < k) where
     pub visit-inside : k - 1 < length p
-    visit-inside = omega (arith, h .upto, visited-length p)
+    visit-inside = omega (arith, h .down .upto, visited-length p)
 
-    pub visit-more : {f r : Found} → f ≡ lowestIn (g (visitAt p (k - 1))) → r ≡ lowerFound f found → Down g (visited p) (k - 1) r
-    visit-more ef er = down-more noStack h more (sym (visited-at p (k - 1) visit-inside)) ef er
+    pub visit-more : {f r : Found} → f ≡ lowestIn (g (visitAt p (k - 1))) → r ≡ lowerFound f found → LowestFrom g (visited p) (k - 1) r
+    visit-more ef er = from-more noStack h more (sym (visited-at p (k - 1) visit-inside)) ef er
 
 -- at the end every stack has been visited, in another order
-pub visit-end : (rule : StackRule) (i : Instance) (p : List Stack) {k : ℕ} {found : Found} → Down (placesOf rule i) (visited p) k found → k ≤ 0
+pub visit-end : (rule : StackRule) (i : Instance) (p : List Stack) {k : ℕ} {found : Found} → LowestFrom (placesOf rule i) (visited p) k found → k ≤ 0
     → found ≡ lowestIn (stackRulePlaces rule i p)
 visit-end rule i p h none =
     let g = placesOf rule i in
     let same = perm-same (visited-perm p) in
-    down-end h none ∙ lowest-members (flatMap g (visited p)) (flatMap g p) (flatMap-equal g g (visited p) p (same .1, same .0) (λ s. refl))
+    from-end h none ∙ lowest-members (flatMap g (visited p)) (flatMap g p) (flatMap-equal g g (visited p) p (same .1, same .0) (λ s. refl))
     ∙ ap lowestIn (places-alone rule i p)

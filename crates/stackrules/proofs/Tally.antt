@@ -1,8 +1,8 @@
 -- Counting how often the stacks load each item, from the last stack to the first.
 use mathlib.Core.Path.{_≡_, refl, sym, ap, _∙_}
 use mathlib.Core.Bool.{Bool, true, false, cond, not}
-use mathlib.Core.List.{List, [], _∷_, flatMap}
-use Prim.Native.Nat.{ℕ, suc, _+_, _-_, _≤_, _<_}
+use mathlib.Core.List.{List, _∷_, flatMap}
+use Prim.Native.Nat.{ℕ, _+_, _-_, _≤_, _<_}
 use native.Mathlib.Omega.{arith}
 use borrow.Author.Tests.{eqb-true, eqb-false}
 use lib.Dec.{eqb}
@@ -16,25 +16,16 @@ use Rattle.meaning.specs.Model.{Instance, Stack}
 use Rattle.meaning.specs.Rules.{timesLoaded, notOnce}
 use Rattle.meaning.specs.Table.{loadEntries, instanceIn, stacksIn}
 use Rattle.meaning.proofs.Lists.{drop-next, drop-back, flatMap-agree, in-upFrom, length-upFrom, upFrom-at}
-use Rattle.meaning.proofs.Sums.{sum-below, sum-drop}
+use Rattle.meaning.proofs.Sums.{sum-below, sum-drop, filter-most}
 use Rattle.table.specs.Filled.{Filled, noStack, stackAt}
 use Rattle.table.proofs.Access.{entries-length, few-entries}
 use Rattle.search.specs.Lowest.{lowestIn, lowerFound}
 use Rattle.search.specs.declared.Found.{Found}
 use Rattle.search.specs.declared.Found.the-variants.{Nothing}
-use Rattle.search.proofs.Lowest.{Down, down-start, down-more, down-end}
+use Rattle.search.proofs.Lowest.{LowestFrom, from-start, from-more, from-end}
 use Rattle.stackrules.specs.StackRules.{Tally}
 
 -- ---- no count is above the number of load entries
-filter-most : {A : Type 0} (test : A → Bool) (l : List A) → length (filter test l) ≤ length l
-unfolding filter
-filter-most test [] = omega arith
-filter-most test (a ∷ l) = go (test a) (filter-most test l)
-  where
-    go : (t : Bool) → length (filter test l) ≤ length l → length (cond t (a ∷ filter test l) (filter test l)) ≤ suc (length l)
-    go true h = omega arith
-    go false h = omega arith
-
 times-most : (n : ℕ) (p : List Stack) → timesLoaded p n ≤ length (loadEntries p)
 unfolding timesLoaded
 times-most n p =
@@ -125,11 +116,11 @@ countPlace times n = onlyIf (not (eqb (getD times (n - 1) 0) 1)) (place n (getD 
 -- `found` is the lowest place of the items above n
 pub record FoundAbove (times : List ℕ) (most n : ℕ) (found : Found) : Type 0 where
   pub upto : n ≤ most
-  down : Down (countPlace times) (upFrom 1 most) n found
+  down : LowestFrom (countPlace times) (upFrom 1 most) n found
 
 module _ {times : List ℕ} {most : ℕ} where
   pub above-none : FoundAbove times most most Nothing
-  above-none = record { upto = omega arith; down = down-start (sym (length-upFrom 1 most)) }
+  above-none = record { upto = omega arith; down = from-start (sym (length-upFrom 1 most)) }
 
   module _ {n : ℕ} {found : Found} where
     pub above-more : (at : ℕ) {f r : Found} → FoundAbove times most n found → 0 < n → at + 1 ≡ n
@@ -139,13 +130,13 @@ module _ {times : List ℕ} {most : ℕ} where
         let same : n - 1 ≡ at = omega arith in
         let number : n ≡ getD (upFrom 1 most) (n - 1) 0 = omega (arith, upFrom-at 1 most (n - 1) 0 (omega (arith, h .upto))) in
         let here : f ≡ lowestIn (countPlace times n) = rw same ef in
-        record { upto = omega (arith, h .upto); down = down-more 0 (h .down) k number here er }
+        record { upto = omega (arith, h .upto); down = from-more 0 (h .down) k number here er }
 
     pub above-end : (i : Instance) (p : List Stack) → FoundAbove times most n found → n ≤ 0 → most ≡ length (i .items) → Tally (length (i .items)) p times
         → found ≡ lowestIn (notOnce i p)
     unfolding notOnce countPlace
     above-end i p h k e tally =
-        let is : found ≡ lowestIn (flatMap (countPlace times) (upFrom 1 (length (i .items)))) = rw e at (down-end (h .down) k) in
+        let is : found ≡ lowestIn (flatMap (countPlace times) (upFrom 1 (length (i .items)))) = rw e at (from-end (h .down) k) in
         let same : flatMap (countPlace times) (upFrom 1 (length (i .items))) ≡ notOnce i p =
         flatMap-agree _ _ (upFrom 1 (length (i .items))) (λ n m.
         let inside = in-upFrom 1 (length (i .items)) n .0 m in

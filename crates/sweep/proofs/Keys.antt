@@ -8,8 +8,7 @@ use lib.ListN.{length, getD, take, set, length-map}
 use lib.Seq.{take-all, take-suc, take-suc-set}
 use Rattle.meaning.specs.Lists.{upFrom}
 use Rattle.meaning.specs.Model.{Stack, x}
-use Rattle.meaning.proofs.Lists.{length-upFrom, upFrom-at}
-use Rattle.table.proofs.Parts.{map-at}
+use Rattle.meaning.proofs.Lists.{map-at, length-upFrom, upFrom-at}
 use Rattle.visits.specs.Visits.{visitAt}
 use Rattle.sweep.specs.Along.{xFrom}
 

@@ -11,12 +11,12 @@ use Rattle.meaning.specs.Limits.{trucksAt, stacksAt}
 use Rattle.meaning.specs.Model.{Instance, Truck, Stack, noTruck, truckNumbered}
 use Rattle.meaning.specs.Table.{truckWords, stackWords, loadEntries, words, truckPlace}
 use Rattle.meaning.specs.InRange.{InRange, TruckFits, Fits}
-use Rattle.meaning.proofs.Lists.{every-at}
+use Rattle.meaning.proofs.Lists.{every-at, map-at}
 use Rattle.meaning.proofs.Decode.{From, past, drop-from, word-at, length-padded, dockWords, from62, stackRow, length-stackRow}
 use Rattle.meaning.proofs.Decode.{behindStacks, truck-rows, stack-rows, instance-held, stacks-held, decodes}
 use Rattle.meaning.proofs.Ranges.{in-range-fits}
 use Rattle.table.specs.Filled.{Bounded, Filled, TruckNumber}
-use Rattle.table.proofs.Parts.{part, part-at, chunk-at, map-at}
+use Rattle.table.proofs.Parts.{part, part-at, chunk-at}
 
 -- ---- the dock counts of a truck
 -- the lengths of short lists, and zeros after them

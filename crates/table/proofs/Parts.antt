@@ -6,6 +6,7 @@ use native.Mathlib.Omega.{arith}
 use lib.ListN.{length, getD, take, drop, length-take, length-drop, length-map}
 use lib.Seq.{getD-take, getD-drop, drop-drop, take-take}
 use Rattle.meaning.specs.Lists.{chunks}
+use Rattle.meaning.proofs.Lists.{map-at}
 
 module _ {A : Type 0} where
   -- n elements, from place `at` on
@@ -49,12 +50,6 @@ module _ {A : Type 0} where
   -- the row at place k, of rows that begin at `at`
   pub chunk-at : (w n k at : ℕ) (l : List A) → k < n → getD (chunks w n (drop at l)) k [] ≡ part (at + w * k) w l
   chunk-at w n k at l h = chunk-first w n k (drop at l) h ∙ ap (take w) (drop-drop (w * k) at l)
-
--- what is made of the element at a place
-pub map-at : {A B : Type 0} (f : A → B) (l : List A) (k : ℕ) (d : A) (e : B) → k < length l → getD (map f l) k e ≡ f (getD l k d)
-map-at f [] k d e h = absurd (omega arith)
-map-at f (a ∷ l) zero d e h = refl
-map-at f (a ∷ l) (suc k) d e h = map-at f l k d e (omega arith)
 
 -- what is made of the rows
 module _ {A B : Type 0} (f : List A → B) (w n : ℕ) where

@@ -17,6 +17,10 @@ use Rattle.lines.proofs.Follow.{no-refusal, more, times-first, times-next, time
 use Rattle.trucks.specs.Rows.{rows}
 
 -- ---- words in front and zeros behind them
+-- a run put behind what is filled
+pub put-next : (front rest run : List ℕ) (at k : ℕ) → length front ≡ at → putMid at k (front ++ rest) run ≡ (front ++ run) ++ drop k rest
+put-next front rest run at k e = rw (take-at front rest at e, drop-at front rest at e) (sym (append-assoc front run (drop k rest)))
+
 -- the words `ws` fill the part `out` up to the place `at`
 pub record Front (size at : ℕ) (ws out : List ℕ) : Type 0 where
   pub wide : length ws ≡ at
@@ -51,9 +55,7 @@ module _ {size at : ℕ} {ws out : List ℕ} (f : Front size at ws out) where
       let split : zeros ≡ replicate k 0 ++ left = rw count (sym (replicate-append-replicate {A = ℕ} k (size - length (ws ++ run)) 0)) in
       record {
         wide = wide;
-        stands =
-            rw (f .stands, take-at ws zeros at (f .wide), drop-at ws zeros at (f .wide), split, drop-at (replicate k 0) left k (length-replicate {A = ℕ} k 0))
-            (sym (append-assoc ws run left));
+        stands = rw (f .stands, put-next ws zeros run at k (f .wide), split, drop-at (replicate k 0) left k (length-replicate {A = ℕ} k 0)) refl;
       }
 
   -- a run that was lent there and came back with as many words

@@ -2,17 +2,15 @@
 use mathlib.Core.Bool.{Bool, true, false, cond}
 use mathlib.Core.List.{List}
 use Prim.Native.Nat.{ℕ, _≤_, _<_}
-use native.Mathlib.Decide.{decLe}
 use native.Mathlib.Omega.{arith}
 use lib.Dec.{eqb}
 use lib.ListN.{length, getD}
 use Rattle.meaning.specs.declared.Limits.{Limits}
-use Rattle.meaning.specs.Lists.{orderIn}
 use Rattle.meaning.specs.Model.{item, truck, truckOf, x, y, orientation}
 use Rattle.meaning.specs.Table.{instanceIn, stacksIn}
 use Rattle.meaning.specs.InRange.{TruckInRange}
 use Rattle.meaning.specs.Measures.{sl, sw, xe, ye, supplierOrder, plantDockOrder}
-use Rattle.meaning.proofs.Orders.{order-in, order-stands}
+use Rattle.meaning.proofs.Orders.{order-most}
 use Rattle.table.specs.Filled.{Filled, stackAt, itemMost}
 use Rattle.table.proofs.Bounds.{item-most}
 use Rattle.table.proofs.Access.{item-in, truck-in, stack-in}
@@ -20,14 +18,6 @@ use Rattle.table.proofs.Access.{item-in, truck-in, stack-in}
 pub either-most : (b : Bool) (u v most : ℕ) → u ≤ most → v ≤ most → cond b u v ≤ most
 either-most true u v most h k = h
 either-most false u v most h k = k
-
--- a loading order goes up to the length of its list
-pub order-most : (most : ℕ) (l : List ℕ) (n : ℕ) → length l ≤ most → orderIn l n ≤ most
-order-most most l n few = go (decLe 1 (orderIn l n))
-  where
-    go : Dec (1 ≤ orderIn l n) → orderIn l n ≤ most
-    go (yes h) = omega (arith, order-stands l n (order-in l n .0 h) .upTo)
-    go (no h) = omega arith
 
 module _ {m : Limits} {t : List ℕ} (h : Filled m t) (s : ℕ) (l : s < length (stacksIn m t)) where
   -- a field of an item of the load

@@ -1,7 +1,7 @@
 -- Loops along a load: what is still to come, or what is done, is the rest of the list from a place on.
 use mathlib.Core.Path.{_≡_, refl, sym, ap, _∙_}
 use mathlib.Core.Bool.{Bool, true, false, not}
-use mathlib.Core.List.{List, [], _∷_, map}
+use mathlib.Core.List.{List, _∷_, map}
 use Prim.Native.Nat.{ℕ, _+_, _-_, _*_, _≤_, _<_}
 use native.Mathlib.Nat.{le-trans, mul-le-mul-left}
 use native.Mathlib.Numerals.{add-one}
@@ -13,7 +13,7 @@ use Rattle.meaning.specs.Lists.{all, any, sum, dedup, listed, upFrom}
 use Rattle.meaning.specs.Model.{Instance, Stack, item, IG}
 use Rattle.meaning.specs.Measures.{plantDockOrder, plantDocksOf}
 use Rattle.meaning.specs.Rules.{plantDockCount}
-use Rattle.meaning.proofs.Lists.{all-reads, drop-next, drop-back, in-upFrom}
+use Rattle.meaning.proofs.Lists.{all-reads, drop-next, Down, down-start, down-more, down-end, in-upFrom}
 use Rattle.table.specs.Filled.{itemMost}
 use Rattle.views.specs.declared.Span.{Span}
 use Rattle.views.specs.Views.{spanWith, spanOf, plantDockOrders, plantDocksFrom}
@@ -77,23 +77,7 @@ module _ {i : Instance} {a : Stack} {dock from : ℕ} where
   unfolding plantDocksFrom any
   passed-end {j} h k = sym (rw (drop-of-length-le (a .load) k) refl) ∙ h .rest
 
--- ---- a value that is worked out on the way down, as a definition by the first element has it
-pub record Down {A B : Type 0} (value : List A → B) (l : List A) (j : ℕ) (v : B) : Type 0 where
-  pub upto : j ≤ length l
-  pub is : v ≡ value (drop j l)
-
-module _ {A B : Type 0} {value : List A → B} {l : List A} where
-  down-start : {j : ℕ} → j ≡ length l → Down value l j (value [])
-  down-start {j} e =
-      let k : length l ≤ j = omega arith in
-      record { upto = omega arith; is = ap value (sym (drop-of-length-le l k)) }
-
-  down-more : (d : A) {j : ℕ} {u v : B} → Down value l j u → 0 < j → v ≡ value (getD l (j - 1) d ∷ drop j l) → Down value l (j - 1) v
-  down-more d {j} h k e = record { upto = omega (arith, h .upto); is = e ∙ ap value (sym (drop-back l j d k (h .upto))) }
-
-  down-end : {j : ℕ} {v : B} → Down value l j v → j ≤ 0 → v ≡ value l
-  down-end {j} h k = let e : j ≡ 0 = omega arith in h .is ∙ ap (λ n. value (drop n l)) e
-
+-- ---- on the way down
 -- the span of the plant dock orders
 module _ (i : Instance) (a : Stack) where
   unfoldable pub spanOver : List ℕ → Span
@@ -101,7 +85,7 @@ module _ (i : Instance) (a : Stack) where
 
   pub span-start : {j : ℕ} → j ≡ length (a .load) → Down spanOver (a .load) j (record { lowest = 8; highest = 0 })
   unfolding spanOver spanOf
-  span-start e = down-start e
+  span-start e = down-start e refl
 
   pub span-more : {j e order : ℕ} {span wider : Span} → Down spanOver (a .load) j span → 0 < j → e ≡ getD (a .load) (j - 1) 0
       → order ≡ plantDockOrder i a (item i e) → wider ≡ spanWith order span → Down spanOver (a .load) (j - 1) wider
@@ -131,7 +115,7 @@ module _ (i : Instance) (a : Stack) where
 
   pub counted-start : {j : ℕ} → j ≡ length (a .load) → Counted j 0
   unfolding docksOver dedup
-  counted-start e = record { down = down-start e; few = omega arith }
+  counted-start e = record { down = down-start e refl; few = omega arith }
 
   -- `later` says whether an item from j on has the dock of the item before
   module _ {j e dock count : ℕ} {later : Bool} (h : Counted j count) (k : 0 < j) (ee : e ≡ getD (a .load) (j - 1) 0) (ed : dock ≡ IG (item i e))

@@ -1,23 +1,23 @@
 -- How large the words of a row are.
-use mathlib.Core.Bool.{Bool, true, false, cond}
 use mathlib.Core.List.{List, [], _∷_, map}
 use Prim.Native.Nat.{ℕ, zero, suc, _≤_, _<_}
 use native.Mathlib.Omega.{arith}
 use lib.Dec.{eqb, ltb}
 use lib.ListN.{length, getD, length-map}
 use Rattle.meaning.specs.declared.Limits.{Limits}
-use Rattle.meaning.specs.Lists.{Every, any, dedup, orderIn}
+use Rattle.meaning.specs.Lists.{Every, orderIn}
 use Rattle.meaning.specs.Model.{Item, item, truckOf, IG, IU, IK}
 use Rattle.meaning.specs.Files.{docksLine}
 use Rattle.meaning.specs.Measures.{sm, bottom, docksOf, supplierDockOrder, plantDockOrder, plantDocksOf}
 use Rattle.meaning.specs.Rules.{plantDockCount}
 use Rattle.meaning.specs.Table.{instanceIn, stacksIn}
 use Rattle.meaning.specs.InRange.{Meets}
-use Rattle.meaning.proofs.Lists.{every-map}
+use Rattle.meaning.proofs.Lists.{every-map, every-or, dedup-most}
+use Rattle.meaning.proofs.Orders.{order-most}
 use Rattle.table.specs.Filled.{Filled, stackAt}
 use Rattle.table.proofs.Access.{stack-in, stack-weight, stack-field-most}
 use Rattle.views.specs.Views.{spanOf, plantDockOrders}
-use Rattle.views.proofs.Bounds.{either-most, order-most, entry-most, stack-truck-in, footprint-bounds, orders-bound, supplier-order-bound}
+use Rattle.views.proofs.Bounds.{either-most, entry-most, stack-truck-in, footprint-bounds, orders-bound, supplier-order-bound}
 use Rattle.visits.specs.Visits.{rowOf, rowMost}
 
 -- ---- lists
@@ -31,21 +31,6 @@ most-at : {l m : List ℕ} → AtMost l m → (k : ℕ) → getD l k 0 ≤ getD 
 most-at none k = omega arith
 most-at (h then r) zero = h
 most-at (h then r) (suc k) = most-at r k
-
--- what holds of every element and of what stands in for one holds at every place
-every-or : {A : Type 0} (P : A → Type 0) (d : A) → P d → (l : List A) → Every P l → (k : ℕ) → P (getD l k d)
-every-or P d p [] h k = p
-every-or P d p (a ∷ l) h zero = h .0
-every-or P d p (a ∷ l) h (suc k) = every-or P d p l (h .1) k
-
-dedup-most : {A : Type 0} (same : A → A → Bool) (l : List A) → length (dedup same l) ≤ length l
-unfolding dedup
-dedup-most same [] = omega arith
-dedup-most same (a ∷ l) = go (dedup-most same l) (any (same a) l)
-  where
-    go : length (dedup same l) ≤ length l → (t : Bool) → length (cond t (dedup same l) (a ∷ dedup same l)) ≤ suc (length l)
-    go rec true = omega arith
-    go rec false = omega arith
 
 -- the span of loading orders up to 8
 spans-most : {A : Type 0} (f : A → ℕ) → ((a : A) → f a ≤ 8) → (l : List A) → (spanOf (map f l) .lowest ≤ 8) × (spanOf (map f l) .highest ≤ 8)

@@ -1,5 +1,5 @@
 -- Used trucks in the visiting order: the stacks of each stand together, by ascending number.
-use mathlib.Core.Path.{_≡_, refl, sym, ap, subst, _∙_}
+use mathlib.Core.Path.{_≡_, sym, ap, subst, _∙_}
 use mathlib.Core.Logic.{inl, ⊎-elim}
 use mathlib.Core.Bool.{Bool, true, false, not}
 use mathlib.Core.List.{List, [], _∷_, _++_, map}
@@ -10,18 +10,17 @@ use borrow.Author.Tests.{not-true, not-false}
 use lib.ListN.{length, getD, drop, length-take, length-drop, length-map, take-append-drop}
 use lib.Seq.{getD-take, getD-drop, drop-drop}
 use Rattle.meaning.specs.declared.Limits.{Limits}
-use Rattle.meaning.specs.Lists.{In, Every, any, filter, dedup}
+use Rattle.meaning.specs.Lists.{In, Every, any, dedup}
 use Rattle.meaning.specs.Model.{Stack, number, truck, copy}
 use Rattle.meaning.specs.Measures.{UsedTruck, usedBy, sameUsed, usedTrucks, stacksOn}
 use Rattle.meaning.specs.Table.{instanceIn, stacksIn}
 use Rattle.meaning.specs.InRange.{StacksInRange}
 use Rattle.meaning.proofs.Tests.{true≢false, fails}
-use Rattle.meaning.proofs.Lists.{NoRepeat, at-in, in-at, in-map, every-at, every-map, every-reads}
+use Rattle.meaning.proofs.Lists.{NoRepeat, at-in, in-at, in-map, every-at, every-map, every-reads, filter-all, map-at}
 use Rattle.meaning.proofs.Permute.{map-perm, noRepeat-perm}
 use Rattle.meaning.proofs.Sound.{not-taken}
 use Rattle.meaning.proofs.RuleKinds.{used-reads}
 use Rattle.table.specs.Filled.{Filled, noStack}
-use Rattle.table.proofs.Parts.{map-at}
 use Rattle.table.proofs.Bounds.{StackBounded}
 use Rattle.table.proofs.Access.{stacks-in}
 use Rattle.visits.specs.Visits.{visitOrder, visitAt, visited, block, OneTruck, Parted}
@@ -201,11 +200,6 @@ module _ {p : List Stack} {start end : ℕ} (h : OneTruck p start end) where
       rw (w .3, there) (parted .apart (w .0) (end + v .0) (w .2) (omega arith) inside)
 
 -- ---- stacks that are all on one used truck
-pub filter-all : {A : Type 0} (test : A → Bool) (l : List A) → Every (λ (a : A). test a ≡ true) l → filter test l ≡ l
-unfolding filter
-filter-all test [] h = refl
-filter-all test (a ∷ l) h = rw (h .0, filter-all test l (h .1)) refl
-
 pub used-one : (u : UsedTruck) (l : List Stack) → 0 < length l → Every (λ (s : Stack). usedBy s ≡ u) l → usedTrucks l ≡ u ∷ []
 unfolding usedTrucks dedup any
 used-one u [] some h = absurd (omega arith)

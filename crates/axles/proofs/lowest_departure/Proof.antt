@@ -4,7 +4,7 @@ use borrow.Author.Needs.{needs}
 use Rattle.meaning.specs.Measures.{usedBy, departures}
 use Rattle.meaning.specs.Table.{instanceIn, stacksIn}
 use Rattle.search.specs.Lowest.{lowestIn}
-use Rattle.search.proofs.Lowest.{Down, down-start, down-more, down-end}
+use Rattle.search.proofs.Lowest.{LowestFrom, from-start, from-more, from-end}
 use Rattle.visits.specs.Visits.{visitAt, block}
 use Rattle.axles.specs.Aboard.{axleTest}
 use Rattle.axles.proofs.Departures.{departureAt, departure-is, departures-length, departure-at, departures-are}
@@ -16,7 +16,7 @@ Inv-loop axle t limits rows start end truck copy found₀ departure₀ found dep
     let i = instanceIn limits t in
     let p = stacksIn limits t in
     let u = usedBy (visitAt p start) in
-    Down (departureAt (axleTest axle) i u (block p start end)) (departures i u) departure found
+    LowestFrom (departureAt (axleTest axle) i u (block p start end)) (departures i u) departure found
 
 abbrev μ-loop : tie.MeasureT-loop
 μ-loop axle t limits rows start end truck copy found₀ departure₀ found departure = departure
@@ -38,7 +38,7 @@ loop-holds c =
     let truck = c .before .before in
     let s = truck .before .before .before in
     let i = instanceIn (s .args .limits) (s .args .t .now) in
-    down-start (departures-length i (s .pre .1) (truck .truck-at .ensures .0) (c .suppliers .ensures .0))
+    from-start (departures-length i (s .pre .1) (truck .truck-at .ensures .0) (c .suppliers .ensures .0))
 
 is-exceeded-requires : tie.Need-is-exceeded-requires Inv-loop μ-loop
 is-exceeded-requires c κs = search needs
@@ -65,7 +65,7 @@ loop-again c =
     let s = truck .before .before .before in
     let i = instanceIn (s .args .limits) (s .args .t .now) in
     let more = exceeded .before .loop-test .taken in
-    down-more 0 (l .loop .inv) more (departure-at i (s .pre .1) more (l .loop .inv .upto))
+    from-more 0 (l .loop .inv) more (departure-at i (s .pre .1) more (l .loop .inv .down .upto))
     (place .place-if .ensures
     ∙ departure-is i (s .pre .1) (truck .truck-at .ensures .0) (copy .row-word .ensures .0) (axleTest (s .args .axle)) (l .loop .departure)
     (exceeded .is-exceeded .ensures))
@@ -76,7 +76,7 @@ returns c =
     let l = c .before in
     let s = l .before .before .before .before .before .before in
     let i = instanceIn (s .args .limits) (s .args .t .now) in
-    down-end (l .loop .inv) (c .loop-test .left) ∙ ap lowestIn (sym (departures-are i (s .pre .1) (axleTest (s .args .axle))))
+    from-end (l .loop .inv) (c .loop-test .left) ∙ ap lowestIn (sym (departures-are i (s .pre .1) (axleTest (s .args .axle))))
 
 pub lowest-departure-spec : {M : Type 1} → statement M
 lowest-departure-spec =

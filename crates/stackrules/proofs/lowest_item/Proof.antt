@@ -2,7 +2,7 @@
 use borrow.Author.Needs.{needs}
 use Rattle.meaning.specs.Table.{instanceIn, stacksIn}
 use Rattle.table.specs.Filled.{stackAt}
-use Rattle.search.proofs.Lowest.{Down, down-start, down-more, down-end}
+use Rattle.search.proofs.Lowest.{LowestFrom, from-start, from-more, from-end}
 use Rattle.stackrules.specs.StackRules.{itemTest}
 use Rattle.stackrules.proofs.Items.{itemPlace, item-place, item-places}
 use Rattle.stackrules.proofs.lowest_item.Statement.{statement}
@@ -12,7 +12,7 @@ abbrev Inv-loop : tie.InvT-loop
 Inv-loop rule t limits s number found₀ j₀ found j =
     let i = instanceIn limits t in
     let stack = stackAt (stacksIn limits t) s in
-    Down (itemPlace (itemTest rule) i stack) (stack .load) j found
+    LowestFrom (itemPlace (itemTest rule) i stack) (stack .load) j found
 
 abbrev μ-loop : tie.MeasureT-loop
 μ-loop rule t limits s number found₀ j₀ found j = j
@@ -24,7 +24,7 @@ load-count-requires : tie.Need-load-count-requires Inv-loop μ-loop
 load-count-requires c κs = search needs
 
 loop-holds : tie.Need-loop-holds Inv-loop μ-loop
-loop-holds c = down-start (c .load-count .ensures .0)
+loop-holds c = from-start (c .load-count .ensures .0)
 
 sub-j : tie.Need-sub-j Inv-loop μ-loop
 sub-j c = search needs
@@ -55,7 +55,7 @@ loop-again c =
     let i = instanceIn (a .limits) (a .t .now) in
     let s = stackAt (stacksIn (a .limits) (a .t .now)) (a .s) in
     let place = item-place (itemTest (a .rule)) i s (e .load-entry .result) (f .stack-field .ensures .0) (k .item-kept .ensures) (b .place-if .ensures) in
-    down-more 0 (l .loop .inv) (e .before .loop-test .taken) (e .load-entry .ensures .0) place (c .lower-of .ensures)
+    from-more 0 (l .loop .inv) (e .before .loop-test .taken) (e .load-entry .ensures .0) place (c .lower-of .ensures)
 
 returns : tie.Need-returns Inv-loop μ-loop
 returns c =
@@ -63,7 +63,7 @@ returns c =
     let a = l .before .before .before .before .args in
     let i = instanceIn (a .limits) (a .t .now) in
     let s = stackAt (stacksIn (a .limits) (a .t .now)) (a .s) in
-    item-places (itemTest (a .rule)) i s (down-end (l .loop .inv) (c .loop-test .left))
+    item-places (itemTest (a .rule)) i s (from-end (l .loop .inv) (c .loop-test .left))
 
 pub lowest-item-spec : {M : Type 1} → statement M
 lowest-item-spec =

@@ -1,14 +1,14 @@
 -- `stackrules::lowest_stack`: what is found is the lowest of the places of the stacks visited so far, in the end of all.
 use borrow.Author.Needs.{needs}
 use Rattle.meaning.specs.Table.{instanceIn, stacksIn}
-use Rattle.search.proofs.Lowest.{Down}
+use Rattle.search.proofs.Lowest.{LowestFrom}
 use Rattle.visits.specs.Visits.{visited}
 use Rattle.stackrules.proofs.Stacks.{placesOf, visit-start, visit-inside, visit-more, visit-end}
 use Rattle.stackrules.proofs.lowest_stack.Statement.{statement}
 use Rattle.stackrules.proofs.lowest_stack.Tie as tie
 
 abbrev Inv-loop : tie.InvT-loop
-Inv-loop rule t limits rows found₀ k₀ found k = Down (placesOf rule (instanceIn limits t)) (visited (stacksIn limits t)) k found
+Inv-loop rule t limits rows found₀ k₀ found k = LowestFrom (placesOf rule (instanceIn limits t)) (visited (stacksIn limits t)) k found
 
 abbrev μ-loop : tie.MeasureT-loop
 μ-loop rule t limits rows found₀ k₀ found k = k

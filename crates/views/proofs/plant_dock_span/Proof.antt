@@ -3,7 +3,8 @@ use native.Mathlib.Omega.{arith}
 use borrow.Author.Needs.{needs}
 use Rattle.meaning.specs.Table.{instanceIn, stacksIn}
 use Rattle.table.specs.Filled.{stackAt}
-use Rattle.views.proofs.Loads.{Down, spanOver, span-start, span-more, span-end}
+use Rattle.meaning.proofs.Lists.{Down}
+use Rattle.views.proofs.Loads.{spanOver, span-start, span-more, span-end}
 use Rattle.views.proofs.plant_dock_span.Statement.{statement}
 use Rattle.views.proofs.plant_dock_span.Tie as tie
 
