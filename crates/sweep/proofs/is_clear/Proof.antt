@@ -10,10 +10,10 @@ use Rattle.sweep.proofs.is_clear.Statement.{statement}
 use Rattle.sweep.proofs.is_clear.Tie as tie
 
 abbrev Inv-loop : tie.InvT-loop
-Inv-loop t limits rows start end along k ground j₀ j = ClearUpto (instanceIn limits t) (stacksIn limits t) start end along k j
+Inv-loop t limits rows on along k ground count j₀ j = ClearUpto (instanceIn limits t) (stacksIn limits t) (on .start) (on .end) along k j
 
 abbrev μ-loop : tie.MeasureT-loop
-μ-loop t limits rows start end along k ground j₀ j = end - start - j
+μ-loop t limits rows on along k ground count j₀ j = count - j
 
 place-along-requires : tie.Need-place-along-requires Inv-loop μ-loop
 place-along-requires c κs = search needs
@@ -21,14 +21,14 @@ place-along-requires c κs = search needs
 footprint-at-requires : tie.Need-footprint-at-requires Inv-loop μ-loop
 footprint-at-requires c κs = search needs
 
+sub-count : tie.Need-sub-count Inv-loop μ-loop
+sub-count c = search needs
+
 add-j : tie.Need-add-j Inv-loop μ-loop
 add-j c = search needs
 
 loop-holds : tie.Need-loop-holds Inv-loop μ-loop
-loop-holds c = clear-start (c .before .before .before .before .before .pre .1)
-
-sub-loop : tie.Need-sub-loop Inv-loop μ-loop
-sub-loop c = search needs
+loop-holds c = clear-start (c .before .before .before .before .before .before .pre .1)
 
 place-along-requires-2 : tie.Need-place-along-requires-2 Inv-loop μ-loop
 place-along-requires-2 c κs = search needs
@@ -40,7 +40,7 @@ returns : tie.Need-returns Inv-loop μ-loop
 returns c =
     let d = c .before .before .before in
     let l = d .before .before .before in
-    let o = l .before in
+    let o = l .before .before in
     λ e. clear-behind (l .loop .inv) (d .before .before .loop-test .taken) (o .before .place-along .ensures .0) (d .before .place-along2 .ensures .0)
     (o .footprint-at .ensures) (d .footprint-at2 .ensures) (o .before .before .before .before .before .pre .0 .sorted) (c .if1 .taken)
 
@@ -52,7 +52,7 @@ returns-2 c = λ e. absurd (true≢false (sym e))
 
 add-j-2 : tie.Need-add-j-2 Inv-loop μ-loop
 add-j-2 c =
-    let p = c .before .before .before .before .before .before .before .before .before .before .before .before .before .before .pre .0 in
+    let p = c .before .before .before .before .before .before .before .before .before .before .before .before .before .before .before .pre .0 in
     omega (arith, p .held .filled .range .stackCount, p .held .filled .bounded .words, p .one .within)
 
 loop-less : tie.Need-loop-less Inv-loop μ-loop
@@ -62,7 +62,7 @@ loop-again : tie.Need-loop-again Inv-loop μ-loop
 loop-again c =
     let d = c .before .before .before .before .before in
     let l = d .before .before .before in
-    let o = l .before in
+    let o = l .before .before in
     clear-more (l .loop .inv) (d .before .before .loop-test .taken) (o .before .place-along .ensures .0) (d .before .place-along2 .ensures .0)
     (o .footprint-at .ensures) (d .footprint-at2 .ensures) (c .before .is-apart .ensures) (c .if2 .left)
 
@@ -77,9 +77,9 @@ is-clear-spec =
     μ-loop
     place-along-requires
     footprint-at-requires
+    sub-count
     add-j
     loop-holds
-    sub-loop
     place-along-requires-2
     footprint-at-requires-2
     returns

@@ -9,10 +9,10 @@ use Rattle.sweep.proofs.is_held.Statement.{statement}
 use Rattle.sweep.proofs.is_held.Tie as tie
 
 abbrev Inv-loop : tie.InvT-loop
-Inv-loop t limits rows start end along k place ground j₀ j = j ≤ k
+Inv-loop t limits rows on along k place ground j₀ j = j ≤ k
 
 abbrev μ-loop : tie.MeasureT-loop
-μ-loop t limits rows start end along k place ground j₀ j = j
+μ-loop t limits rows on along k place ground j₀ j = j
 
 place-along-requires : tie.Need-place-along-requires Inv-loop μ-loop
 place-along-requires c κs = search needs

@@ -9,10 +9,10 @@ use Rattle.sweep.proofs.is_in_order.Statement.{statement}
 use Rattle.sweep.proofs.is_in_order.Tie as tie
 
 abbrev Inv-loop : tie.InvT-loop
-Inv-loop t limits rows start end along k place j₀ j = KeptBefore (instanceIn limits t) (stacksIn limits t) start along k j
+Inv-loop t limits rows on along k place j₀ j = KeptBefore (instanceIn limits t) (stacksIn limits t) (on .start) along k j
 
 abbrev μ-loop : tie.MeasureT-loop
-μ-loop t limits rows start end along k place j₀ j = k - j
+μ-loop t limits rows on along k place j₀ j = k - j
 
 place-along-requires : tie.Need-place-along-requires Inv-loop μ-loop
 place-along-requires c κs = search needs

@@ -9,16 +9,16 @@ use Rattle.sweep.proofs.is_kept_by_all.Statement.{statement}
 use Rattle.sweep.proofs.is_kept_by_all.Tie as tie
 
 abbrev Inv-loop : tie.InvT-loop
-Inv-loop rule t limits rows start end along k₀ k = KeptUpto rule limits t start end along k
+Inv-loop rule t limits rows on along count k₀ k = KeptUpto rule limits t (on .start) (on .end) along k
 
 abbrev μ-loop : tie.MeasureT-loop
-μ-loop rule t limits rows start end along k₀ k = end - start - k
+μ-loop rule t limits rows on along count k₀ k = count - k
+
+sub-count : tie.Need-sub-count Inv-loop μ-loop
+sub-count c = search needs
 
 loop-holds : tie.Need-loop-holds Inv-loop μ-loop
 loop-holds c = kept-start
-
-sub-loop : tie.Need-sub-loop Inv-loop μ-loop
-sub-loop c = search needs
 
 is-kept-requires : tie.Need-is-kept-requires Inv-loop μ-loop
 is-kept-requires c κs = search needs
@@ -28,7 +28,7 @@ returns c = λ e. absurd (true≢false (sym e))
 
 add-k : tie.Need-add-k Inv-loop μ-loop
 add-k c =
-    let p = c .before .before .before .before .before .before .before .pre in
+    let p = c .before .before .before .before .before .before .before .before .pre in
     omega (arith, p .held .filled .range .stackCount, p .held .filled .bounded .words, p .one .within)
 
 loop-less : tie.Need-loop-less Inv-loop μ-loop
@@ -38,7 +38,7 @@ loop-again : tie.Need-loop-again Inv-loop μ-loop
 loop-again c = kept-more (c .before .before .before .loop .inv) (c .before .before .loop-test .taken) (c .before .is-kept .ensures) (c .if1 .left)
 
 returns-2 : tie.Need-returns-2 Inv-loop μ-loop
-returns-2 c = λ e. kept-by-all (c .before .before .before .before .before .pre) (c .before .loop .inv) (c .loop-test .left)
+returns-2 c = λ e. kept-by-all (c .before .before .before .before .before .before .pre) (c .before .loop .inv) (c .loop-test .left)
 
 pub is-kept-by-all-spec : {M : Type 1} → statement M
 is-kept-by-all-spec =
@@ -46,8 +46,8 @@ is-kept-by-all-spec =
     (tie.spec
     Inv-loop
     μ-loop
+    sub-count
     loop-holds
-    sub-loop
     is-kept-requires
     returns
     add-k

@@ -15,7 +15,7 @@ sorted-holds : (c : tie.After-sort) → let a = c .before .before .before .befor
 sorted-holds c =
     let written = c .before .before .before .before .before in
     let p = written .before .before .before .before .before .before .pre in
-    holds-along (written .put-x .last .1 .1 .1 .1 .1 .0) (p .0) (p .1) (written .put-x .ensures .0) (c .sort .ensures .0)
+    holds-along (written .put-x .last .1 .1 .1 .1 .0) (p .0) (p .1) (written .put-x .ensures .0) (c .sort .ensures .0)
     (omega (arith, p .1 .within, c .sort .ensures .1))
 
 put-x-requires : tie.Need-put-x-requires

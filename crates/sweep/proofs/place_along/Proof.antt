@@ -19,8 +19,8 @@ add-result c = search needs
 
 returns : tie.Need-returns
 returns c =
-    let s = c .before .before .before .before .before in
-    rw (c .as-index .ensures .0) (let w = place-within (s .pre .0 .sorted) (s .args .k) (s .pre .1) in (refl, w .0, w .1))
+    let s = c .before .before .before .before .before .before in
+    rw (c .before .as-index .ensures .0) (let w = place-within (s .pre .0 .sorted) (s .args .k) (s .pre .1) in (refl, w .0, w .1))
 
 pub place-along-spec : {M : Type 1} → statement M
 place-along-spec =

@@ -11,11 +11,11 @@ use Rattle.sweep.proofs.put_x.Statement.{statement}
 use Rattle.sweep.proofs.put_x.Tie as tie
 
 abbrev Inv-loop : tie.InvT-loop
-Inv-loop t limits rows start end keys₀ count k₀ keys k =
-    (k ≤ end - start) × (take k keys ≡ take k (xFrom (stacksIn limits t) start end)) × (length keys ≡ length keys₀)
+Inv-loop t limits rows on keys₀ count k₀ keys k =
+    (k ≤ on .end - on .start) × (take k keys ≡ take k (xFrom (stacksIn limits t) (on .start) (on .end))) × (length keys ≡ length keys₀)
 
 abbrev μ-loop : tie.MeasureT-loop
-μ-loop t limits rows start end keys₀ count k₀ keys k = count - k
+μ-loop t limits rows on keys₀ count k₀ keys k = count - k
 
 sub-count : tie.Need-sub-count Inv-loop μ-loop
 sub-count c = search needs
@@ -46,11 +46,11 @@ loop-less c = search needs
 
 loop-again : tie.Need-loop-again Inv-loop μ-loop
 loop-again c =
-    let l = c .before .before in
-    let o = l .before .before .before .before in
+    let l = c .before .before .before in
+    let o = l .before .before .before .before .before in
     let a = o .args in
-    let more = x-more (stacksIn (a .limits) (a .t .now)) (a .start) (a .end) (l .loop .keys) (l .loop .k) (c .row-word .result) (l .loop .inv .1)
-    (omega (arith, o .pre .2, l .loop .inv .2)) (c .before .loop-test .taken) (c .row-word .ensures .0) in
+    let more = x-more (stacksIn (a .limits) (a .t .now)) (a .on .start) (a .on .end) (l .loop .keys) (l .loop .k) (c .row-word .result) (l .loop .inv .1)
+    (omega (arith, o .pre .2, l .loop .inv .2)) (c .before .before .loop-test .taken) (c .row-word .ensures .0) in
     (omega arith, more, simp length-set (l .loop .inv .2))
 
 same-length : tie.Need-same-length Inv-loop μ-loop
@@ -59,9 +59,9 @@ same-length c = search needs
 returns : tie.Need-returns Inv-loop μ-loop
 returns c =
     let l = c .before in
-    let a = l .before .before .before .before .args in
-    let e : l .loop .k ≡ a .end - a .start = omega arith in
-    (rw e at (l .loop .inv .1) ∙ x-all (stacksIn (a .limits) (a .t .now)) (a .start) (a .end), l .loop .inv .2)
+    let a = l .before .before .before .before .before .args in
+    let e : l .loop .k ≡ a .on .end - a .on .start = omega arith in
+    (rw e at (l .loop .inv .1) ∙ x-all (stacksIn (a .limits) (a .t .now)) (a .on .start) (a .on .end), l .loop .inv .2)
 
 pub put-x-spec : {M : Type 1} → statement M
 put-x-spec =
