@@ -1,28 +1,21 @@
 -- Signed numbers of the code: how far they are from zero, and that the machine's number is the contract's.
 use mathlib.Core.Path.{_≡_, refl, ap₂, _∙_}
-use mathlib.Core.Bool.{Bool, true, false, cond}
-use Prim.Native.Nat.{ℕ, zero, suc, _+_, _-_, _*_, _^_, _≤_}
+use Prim.Native.Nat.{ℕ, zero, suc, _+_, _*_, _^_, _≤_}
 use native.Mathlib.Nat.{mul-le-mul, le-refl}
 use native.Mathlib.Omega.{arith}
-use borrow.Author.Tests.{ltb-true}
 use lib.Dec.{T, ltb, ltb→lt, leb→le, le→leb}
 use lib.IntN.{ℤ, pos, negsuc, negℤ, natAbs, _+ℤ_, _-ℤ_, _*ℤ_}
 use lib.Signed.{leZ}
 use mir.Syntax.{w64}
 use mir.Val.{SFits, toZ, ofZ}
 use mir.Facts.{toZ-ofZ, toZ-pos}
-use Rattle.meaning.proofs.Ring.{less}
+use Rattle.meaning.proofs.Ring.{less, less-cases}
 use Rattle.axles.specs.Aboard.{Moderate}
 
 -- ---- how far from zero
 -- a difference is no further than the greater of its two numbers
 pub less-size : (a b k : ℕ) → a ≤ k → b ≤ k → natAbs (less a b) ≤ k
-unfolding less
-less-size a b k h l = choose (ltb a b) refl
-  where
-    choose : (t : Bool) → ltb a b ≡ t → natAbs (cond t (negsuc (b - suc a)) (pos (a - b))) ≤ k
-    choose true e = let below = ltb-true a b e in omega arith
-    choose false e = omega arith
+less-size a b k h l = less-cases (λ z. natAbs z ≤ k) a b (λ j e. omega arith) (λ j e. omega arith)
 
 pub plus-size : (y z : ℤ) {a b : ℕ} → natAbs y ≤ a → natAbs z ≤ b → natAbs (y +ℤ z) ≤ a + b
 unfolding less

@@ -72,7 +72,7 @@ module _ {A : Type 0} (file : List ℕ) where
   given-reached a (OutOfRange n) = refl
 
 -- a refusal stays: where none came out, none came in
-pub going-before : {B : Type 0} (file : List ℕ) (b : B) (p q : Progress) (R : Reader B) → reached file b q ≡ resumed file p R → Going q → Going p
+going-before : {B : Type 0} (file : List ℕ) (b : B) (p q : Progress) (R : Reader B) → reached file b q ≡ resumed file p R → Going q → Going p
 going-before file b (Next at n k) q R e g = tt
 going-before file b (WrongForm n) (Next at′ n′ k′) R e g = let z : _≡_ {A = ℕ} 0 1 = cc in omega arith
 going-before file b (WrongForm n) (WrongForm n′) R e g = g

@@ -148,10 +148,10 @@ module _ (t : Truck) (h : TruckFits t) where
       last (plantDockWords t)
       (past 64 (padded 64 (flatMap (padded 8) (t .docks))) (plantDockWords t) from70 (length-runs 8 (padded 8) 8 (t .docks) eights few-docks))
 
-  pub truck-size : length (truckWords t) ≡ 160
+  truck-size : length (truckWords t) ≡ 160
   truck-size = length-whole (past 26 (plantDockWords t) [] from134 (length-counted 25 (t .plantDocks) (omega (arith, h .plantDocks))))
 
-  pub truck-decodes : truckIn (truckWords t) ≡ t
+  truck-decodes : truckIn (truckWords t) ≡ t
   unfolding truckIn truckWords
   truck-decodes =
       let ws = truckWords t in

@@ -57,7 +57,7 @@ decimal-printed (b ∷ bs) most v n h e =
     ∙ one-more most v (b - 48) bs positive (d .1)
     ∙ ap (λ (a : ℕ). digitsOnto most v (a ∷ bs)) (d .0)
 
-pub number-printed : (bs : List ℕ) (n : ℕ) → number bs ≡ some n → digits n ≡ bs
+number-printed : (bs : List ℕ) (n : ℕ) → number bs ≡ some n → digits n ≡ bs
 unfolding number decimalFrom
 number-printed [] n e = cc
 number-printed (b ∷ bs) n e =

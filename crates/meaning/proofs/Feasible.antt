@@ -90,7 +90,7 @@ module _ (i : Instance) (p : List Stack) (sound : Sound i p) where
         weights = (weights-exactly i p .1 (r .weights), (axles .0, (axles .1, tt)));
       }
 
-  pub verdict-exactly : (verdictOn i p .number ≡ 0) ↔ Feasible i p
+  verdict-exactly : (verdictOn i p .number ≡ 0) ↔ Feasible i p
   verdict-exactly = iff-trans (accepted-exactly i p .0) (iff-trans by-family (kept-holds, holds-kept))
 
 pub accepted-when-feasible : (m : Limits) → AcceptedWhenFeasible m

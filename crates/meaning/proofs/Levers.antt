@@ -78,14 +78,14 @@ unfolding usedTrucks
 in-used p u = iff-trans (in-dedup sameUsed used-reads (map usedBy p) u) (in-map usedBy p u)
 
 -- a departure for each supplier
-pub in-departures : (i : Instance) (u : UsedTruck) (k : ℕ) → In k (departures i u) ↔ ((1 ≤ k) × (k ≤ length (truckNumbered i (u .truck) .suppliers)))
+in-departures : (i : Instance) (u : UsedTruck) (k : ℕ) → In k (departures i u) ↔ ((1 ≤ k) × (k ≤ length (truckNumbered i (u .truck) .suppliers)))
 in-departures i u k =
     let n = length (truckNumbered i (u .truck) .suppliers) in
     let h = in-upFrom 1 n k in
     ((λ m. let w = h .0 m in (w .0, omega (arith, w .1))), (λ w. h .1 (w .0, omega (arith, w .1))))
 
 -- the stacks that are on at departure k of the used truck of s are those that the picture picks
-pub on-at : (i : Instance) (p : List Stack) (s : Stack) (k : ℕ) → stacksAt i p (usedBy s) k ≡ filter (onAt i s k) p
+on-at : (i : Instance) (p : List Stack) (s : Stack) (k : ℕ) → stacksAt i p (usedBy s) k ≡ filter (onAt i s k) p
 unfolding stacksAt stacksOn
 on-at i p s k = filter-twice (onTruckOf s) (λ r. between 1 k (supplierOrder i r)) p ∙ filter-same _ (onAt i s k) p same
   where

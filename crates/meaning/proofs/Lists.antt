@@ -148,7 +148,7 @@ module _ {A : Type 0} where
     down-end {j} h k = let e : j ≡ 0 = omega arith in h .is ∙ ap (λ n. value (drop n l)) e
 
   -- ---- no element
-  pub append-none : (l l′ : List A) → (l ++ l′ ≡ []) ↔ ((l ≡ []) × (l′ ≡ []))
+  append-none : (l l′ : List A) → (l ++ l′ ≡ []) ↔ ((l ≡ []) × (l′ ≡ []))
   append-none [] l′ = ((λ e. (refl, e)), (λ h. h .1))
   append-none (a ∷ l) l′ = ((λ e. absurd (no-cons a (l ++ l′) e)), (λ h. absurd (no-cons a l (h .0))))
 
@@ -232,7 +232,7 @@ module _ {A : Type 0} where
     pub same-turned : (a b : A) → same a b ≡ same b a
     same-turned a b = same-test (same a b) (same b a) ((λ e. reads b a .1 (sym (reads a b .0 e))), (λ e. reads a b .1 (sym (reads b a .0 e))))
 
-    pub any-same : (a : A) (l : List A) → (any (same a) l ≡ true) ↔ In a l
+    any-same : (a : A) (l : List A) → (any (same a) l ≡ true) ↔ In a l
     any-same a l = (
       (λ e. let w = any-reads (same a) l .0 e in subst (λ (z : A). In z l) (sym (reads a (w .0) .0 (w .2))) (w .1)),
       (λ m. any-reads (same a) l .1 (a, m, reads a a .1 refl)),

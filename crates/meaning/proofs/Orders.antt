@@ -75,7 +75,7 @@ pub order-most : (most : ℕ) (l : List ℕ) (n : ℕ) → length l ≤ most →
 order-most most l n few = ⊎-elim (λ k. omega (arith, k .1)) (λ k. omega (arith, k .2, k .1 .upTo)) (order-cases 1 n l)
 
 -- in a list without repeats an entry stands at one place
-pub stands-once : (l : List ℕ) (n j k : ℕ) → NoRepeat l → Stands l n j → Stands l n k → j ≡ k
+stands-once : (l : List ℕ) (n j k : ℕ) → NoRepeat l → Stands l n j → Stands l n k → j ≡ k
 stands-once [] n j k d h h′ = absurd (omega (arith, h .from, h .upTo))
 stands-once (m ∷ l) n j k d h h′ = go (λ i i′. stands-once l n i i′ (d .1)) (stands-cases m l n j h) (stands-cases m l n k h′)
   where

@@ -100,13 +100,13 @@ drop-line [] rest = refl
 drop-line (b ∷ l) rest = drop-line l rest
 
 -- what is taken from a line with bytes after it is decided by the line's numbers
-pub take-ended : (f : Form) (l rest : List ℕ) → OneLine l → takeLine f (ended l ++ rest) ≡ judgedLine f rest (lineNumbers (f .key) l)
+take-ended : (f : Form) (l rest : List ℕ) → OneLine l → takeLine f (ended l ++ rest) ≡ judgedLine f rest (lineNumbers (f .key) l)
 unfolding takeLine
 take-ended f l rest h =
     let long : length l < length (l ++ 10 ∷ rest) = omega (arith, length-append l (10 ∷ rest)) in
     rw (append-assoc, count-line l rest h, lt-reads (length l) (length (l ++ 10 ∷ rest)) .1 long, drop-line l rest, take-append-seam l (10 ∷ rest))
 
-pub line-ended : (f : Form) (l rest : List ℕ) (n : ℕ) → OneLine l → line f n (ended l ++ rest) ≡ atLine n (judgedLine f rest (lineNumbers (f .key) l))
+line-ended : (f : Form) (l rest : List ℕ) (n : ℕ) → OneLine l → line f n (ended l ++ rest) ≡ atLine n (judgedLine f rest (lineNumbers (f .key) l))
 unfolding line
 line-ended f l rest n h = ap (atLine n) (take-ended f l rest h)
 

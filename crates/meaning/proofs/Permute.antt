@@ -19,7 +19,7 @@ module _ {A : Type 0} where
   pub same-refl : (l : List A) → Same l l
   same-refl l = ((λ a m. m), (λ a m. m))
 
-  pub same-any : (test : A → Bool) (l l′ : List A) → Same l l′ → any test l ≡ any test l′
+  same-any : (test : A → Bool) (l l′ : List A) → Same l l′ → any test l ≡ any test l′
   same-any test l l′ s =
       same-test (any test l) (any test l′) (
         (λ e. let w = any-reads test l .0 e in any-reads test l′ .1 (w .0, s .0 (w .0) (w .1), w .2)),
@@ -39,7 +39,7 @@ module _ {A : Type 0} where
     perm-induct (List·Permᴰ·trans {l₁} {l₂} {l₃} h k) = chain l₁ l₂ l₃ (perm-induct h) (perm-induct k)
 
   -- a value that stays when the first two elements change places is the same in every order
-  pub perm-equal : {B : Type 0} (value : List A → B) → ((a : A) (l l′ : List A) → value l ≡ value l′ → value (a ∷ l) ≡ value (a ∷ l′))
+  perm-equal : {B : Type 0} (value : List A → B) → ((a : A) (l l′ : List A) → value l ≡ value l′ → value (a ∷ l) ≡ value (a ∷ l′))
       → ((a b : A) (l : List A) → value (a ∷ b ∷ l) ≡ value (b ∷ a ∷ l)) → {l l′ : List A} → List·Permᴰ l l′ → value l ≡ value l′
   perm-equal value first exchange h = perm-induct (λ l l′. value l ≡ value l′) refl (λ a l l′ k e. first a l l′ e) exchange (λ l m n e k. e ∙ k) h
 
@@ -108,7 +108,7 @@ module _ {A : Type 0} where
       (b ∷ w .0, List·Permᴰ·trans (List·Permᴰ·cons refl (w .1)) (List·Permᴰ·swap refl refl))
 
   -- where neither list repeats a member, the same members make a permutation
-  pub members-perm : (l l′ : List A) → NoRepeat l → NoRepeat l′ → Same l l′ → List·Permᴰ l l′
+  members-perm : (l l′ : List A) → NoRepeat l → NoRepeat l′ → Same l l′ → List·Permᴰ l l′
   members-perm [] [] u u′ s = List·Permᴰ·nil
   members-perm [] (b ∷ l′) u u′ s = absurd (s .1 b (inl refl))
   members-perm (a ∷ l) l′ u u′ s =

@@ -7,14 +7,13 @@ use mathlib.Core.List.{List, [], _∷_, _++_, map}
 use Prim.Native.Nat.{ℕ, zero, suc, _+_, _*_, _-_, _/_, _%_, _≤_, _<_}
 use Prim.Native.String.{String}
 use native.Mathlib.Omega.{arith}
-use borrow.Author.Tests.{ltb-false}
 use lib.Dec.{ltb, eqb}
 use lib.ListN.{length, getD}
 use Rattle.meaning.specs.Lists.{In, Every, listed}
 use Rattle.meaning.specs.Text.{bytes, decimalFrom, needlessZero, number, andNumbers, numbers, commaParts, valueAfter, numbersOf, lineNumbers}
 use Rattle.meaning.specs.Reorder.{OneLine}
 use Rattle.meaning.specs.Print.{digitsOnto, digits, commaJoined, printedLine}
-use Rattle.meaning.proofs.Tests.{true≢false, fails, not-reads, and-reads, lt-reads, eq-reads, between-reads}
+use Rattle.meaning.proofs.Tests.{true≢false, fails, not-reads, and-reads, eq-reads, between-reads, by-less}
 use Rattle.meaning.proofs.Lists.{in-append, listed-reads, every-reads, every-append, every-map}
 use Rattle.meaning.proofs.Outcomes.{not-listed}
 
@@ -78,18 +77,12 @@ digits-worth : (most n : ℕ) (tail : List ℕ) → n < tens most → decimalFro
 unfolding tens digitsOnto
 digits-worth zero n tail h = let z : 0 ≡ n = omega arith in ap (λ (v : ℕ). decimalFrom v tail) z
 digits-worth (suc most) n tail h =
-    let front = (48 + n % 10) ∷ tail in
-    go (ltb n 10) refl (digitsOnto most (n / 10) front) (digits-worth most (n / 10) front (omega arith))
-  where
-    go : (t : Bool) → ltb n 10 ≡ t → (more : List ℕ) → decimalFrom 0 more ≡ decimalFrom (n / 10) ((48 + n % 10) ∷ tail)
-        → decimalFrom 0 (cond t ((48 + n) ∷ tail) more) ≡ decimalFrom n tail
-    go true e more k =
-        let small : n < 10 = lt-reads n 10 .0 e in
-        let z : 10 * 0 + n ≡ n = omega arith in
-        read-digit 0 n tail (omega arith) ∙ ap (λ (v : ℕ). decimalFrom v tail) z
-    go false e more k =
-        let z : 10 * (n / 10) + n % 10 ≡ n = omega arith in
-        k ∙ read-digit (n / 10) (n % 10) tail (omega arith) ∙ ap (λ (v : ℕ). decimalFrom v tail) z
+    by-less (λ (ds : List ℕ). decimalFrom 0 ds ≡ decimalFrom n tail) n 10
+    (λ small. let z : 10 * 0 + n ≡ n = omega arith in read-digit 0 n tail (omega arith) ∙ ap (λ (v : ℕ). decimalFrom v tail) z)
+    (λ large.
+    let z : 10 * (n / 10) + n % 10 ≡ n = omega arith in
+    digits-worth most (n / 10) ((48 + n % 10) ∷ tail) (omega arith) ∙ read-digit (n / 10) (n % 10) tail (omega arith)
+    ∙ ap (λ (v : ℕ). decimalFrom v tail) z)
 
 -- at least one digit and at most `most` in front of `tail`, and the first is no zero
 record Shaped (most : ℕ) (tail ds : List ℕ) : Type 0 where
@@ -101,16 +94,10 @@ digits-shaped : (most n : ℕ) (tail : List ℕ) → 1 ≤ n → n < tens most �
 unfolding tens digitsOnto
 digits-shaped zero n tail k h = absurd (omega arith)
 digits-shaped (suc most) n tail k h =
-    let front = (48 + n % 10) ∷ tail in
-    go (ltb n 10) refl (digitsOnto most (n / 10) front) (digits-shaped most (n / 10) front)
-  where
-    go : (t : Bool) → ltb n 10 ≡ t → (more : List ℕ) → (1 ≤ n / 10 → n / 10 < tens most → Shaped most ((48 + n % 10) ∷ tail) more)
-        → Shaped (suc most) tail (cond t ((48 + n) ∷ tail) more)
-    go true e more rec = record { some = omega arith; few = omega arith; first = omega arith }
-    go false e more rec =
-        let large : 10 ≤ n = ltb-false n 10 e in
-        let s = rec (omega arith) (omega arith) in
-        record { some = omega (arith, s .some); few = omega (arith, s .few); first = s .first }
+    by-less (Shaped (suc most) tail) n 10 (λ small. record { some = omega arith; few = omega arith; first = omega arith })
+    (λ large.
+    let s = digits-shaped most (n / 10) ((48 + n % 10) ∷ tail) (omega arith) (omega arith) in
+    record { some = omega (arith, s .some); few = omega (arith, s .few); first = s .first })
 
 -- bytes of that shape are read digit by digit
 shaped-number : (ds : List ℕ) → Shaped 10 [] ds → number ds ≡ decimalFrom 0 ds

@@ -1,12 +1,11 @@
 -- Two files are read as an instance and stacks exactly when they are short enough, each is read to its end, and no codes clash.
 use mathlib.Core.Path.{_≡_, refl, sym, ap₂, subst}
 use mathlib.Core.Logic.{_↔_}
-use mathlib.Core.Bool.{Bool, true, false, cond}
+use mathlib.Core.Bool.{cond}
 use mathlib.Core.Option.{Option, none, some}
 use mathlib.Core.List.{List, [], _∷_}
-use Prim.Native.Nat.{ℕ, _≤_, _<_}
+use Prim.Native.Nat.{ℕ, _≤_}
 use native.Mathlib.Omega.{arith}
-use borrow.Author.Tests.{ltb-false}
 use lib.Dec.{ltb}
 use lib.ListN.{length}
 use Rattle.meaning.specs.declared.Limits.{Limits}
@@ -17,7 +16,7 @@ use Rattle.meaning.specs.Model.{Instance, Stack}
 use Rattle.meaning.specs.Files.{instanceLines, planLines}
 use Rattle.meaning.specs.Places.{lowest}
 use Rattle.meaning.specs.Check.{Reading, refused, readable, refusedAt, codeClashes, afterPlan, afterClash, afterInstance, readFiles}
-use Rattle.meaning.proofs.Tests.{lt-reads}
+use Rattle.meaning.proofs.Tests.{by-less}
 use Rattle.meaning.proofs.Lists.{no-cons}
 use Rattle.meaning.proofs.Outcomes.{Finds}
 
@@ -67,11 +66,9 @@ module _ (m : Limits) (instance plan : List ℕ) (i : Instance) (p : List Stack)
 
   -- "overlong" is asked of each file before anything is read
   short-reads : (verdict n : ℕ) (r : Reading) → (cond (ltb (m .bytes) n) (refusedAt verdict 0) r ≡ readable i p) ↔ ((n ≤ m .bytes) × (r ≡ readable i p))
-  short-reads verdict n r = go (ltb (m .bytes) n) refl
-    where
-      go : (t : Bool) → ltb (m .bytes) n ≡ t → (cond t (refusedAt verdict 0) r ≡ readable i p) ↔ ((n ≤ m .bytes) × (r ≡ readable i p))
-      go true e = ((λ k. absurd (refused-not _ i p k)), (λ k. let long : m .bytes < n = lt-reads (m .bytes) n .0 e in absurd (omega (arith, k .0))))
-      go false e = ((λ k. (ltb-false (m .bytes) n e, k)), (λ k. k .1))
+  short-reads verdict n r =
+      by-less (λ (q : Reading). (q ≡ readable i p) ↔ ((n ≤ m .bytes) × (r ≡ readable i p))) (m .bytes) n
+      (λ long. ((λ k. absurd (refused-not _ i p k)), (λ k. absurd (omega (arith, k .0))))) (λ short. ((λ k. (short, k)), (λ k. k .1)))
 
   pub read-reads : (readFiles m instance plan ≡ readable i p) ↔ ReadAs m instance plan i p
   unfolding readFiles wholeFile

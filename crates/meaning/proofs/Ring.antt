@@ -1,10 +1,9 @@
 -- Equations between signed numbers. A signed number is a difference of two whole numbers, and on those `omega` decides: see `ring` at the end.
 use mathlib.Core.Path.{_≡_, refl, _∙_, ap}
-use mathlib.Core.Bool.{Bool, true, false, not, cond}
-use Prim.Native.Nat.{ℕ, zero, suc, _+_, _*_, _-_, _<_, _≤_}
+use Prim.Native.Nat.{ℕ, zero, suc, _+_, _*_, _-_}
 use native.Mathlib.Omega.{arith}
-use lib.Dec.{T, ltb, ltb→lt, nltb→le}
 use lib.IntN.{ℤ, pos, negsuc, negℤ, subℕ, _+ℤ_, _*ℤ_}
+use Rattle.meaning.proofs.Tests.{by-less}
 
 -- a less b, as a signed number
 unfoldable pub less : ℕ → ℕ → ℤ
@@ -20,14 +19,9 @@ below (pos n) = 0
 below (negsuc n) = suc n
 
 -- a difference is a whole number, or the negative of one above zero
-less-cases : (P : ℤ → Type 0) (a b : ℕ) → ((k : ℕ) → a ≡ b + k → P (pos k)) → ((k : ℕ) → b ≡ a + suc k → P (negsuc k)) → P (less a b)
+pub less-cases : (P : ℤ → Type 0) (a b : ℕ) → ((k : ℕ) → a ≡ b + k → P (pos k)) → ((k : ℕ) → b ≡ a + suc k → P (negsuc k)) → P (less a b)
 unfolding less
-less-cases P a b f g =
-    choose (ltb a b) (λ t. let h : a < b = ltb→lt a b t in g (b - suc a) (omega arith)) (λ t. let h : b ≤ a = nltb→le a b t in f (a - b) (omega arith))
-  where
-    choose : (c : Bool) → (T c → P (negsuc (b - suc a))) → (T (not c) → P (pos (a - b))) → P (cond c (negsuc (b - suc a)) (pos (a - b)))
-    choose true k l = k tt
-    choose false k l = l tt
+less-cases P a b f g = by-less P a b (λ h. g (b - suc a) (omega arith)) (λ h. f (a - b) (omega arith))
 
 -- a signed number is the difference that its two parts say
 pub is-less : (z : ℤ) (a b : ℕ) → above z + b ≡ a + below z → z ≡ less a b

@@ -5,7 +5,7 @@ use mathlib.Core.Option.{Option, none, some}
 use mathlib.Core.List.{List, _++_}
 use Prim.Native.Nat.{ℕ, _≤_, _<_}
 use native.Mathlib.Omega.{arith}
-use borrow.Author.Tests.{lt-ltb, le-ltb, ltb-true, ltb-false}
+use borrow.Author.Tests.{lt-ltb, le-ltb}
 use lib.Dec.{ltb}
 use lib.ListN.{length, take, drop, length-append, length-drop, length-replicate}
 use lib.Seq.{take-at, drop-at}
@@ -19,6 +19,7 @@ use Rattle.meaning.specs.Places.{place, lowest}
 use Rattle.meaning.specs.Verdict.{refusal}
 use Rattle.meaning.specs.Check.{Reading, refused, readable, refusedAt, afterPlan, afterClash, afterInstance, codeClashes, readFiles, namedAfter, tableAfter}
 use Rattle.meaning.specs.Claims.{TableAfter, RefusedReading, ReadRefused}
+use Rattle.meaning.proofs.Tests.{by-less}
 use Rattle.meaning.proofs.Decode.{decodes}
 use Rattle.meaning.proofs.Ranges.{read-fits}
 
@@ -46,11 +47,8 @@ module _ (m : Limits) (table instance plan : List ℕ) where
   if-long h = rw (le-ltb (length table) (named m) h)
 
   by-length : (P : List ℕ → Type 0) → (length table < named m → P table) → (named m ≤ length table → P (words-after ++ drop (named m) table)) → P (tableAfter m table instance plan)
-  by-length P f g = go (ltb (length table) (named m)) refl
-    where
-      go : (t : Bool) → ltb (length table) (named m) ≡ t → P (tableAfter m table instance plan)
-      go true e = let h = ltb-true _ _ e in rw (if-short h) (f h)
-      go false e = let h = ltb-false _ _ e in rw (if-long h) (g h)
+  unfolding tableAfter
+  by-length P f g = by-less P (length table) (named m) f g
 
   named-words : named m ≤ length table → take (named m) (tableAfter m table instance plan) ≡ words-after
   named-words h = rw (if-long h) (take-at words-after (drop (named m) table) (named m) sized)

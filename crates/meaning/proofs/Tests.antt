@@ -1,10 +1,10 @@
 -- Tests read as statements: each connective and each comparison once, in both directions.
 use mathlib.Core.Path.{_≡_, refl, sym, subst}
 use mathlib.Core.Logic.{_⊎_, inl, inr, ⊎-elim, _↔_}
-use mathlib.Core.Bool.{Bool, true, false, not, _&&_, _||_}
+use mathlib.Core.Bool.{Bool, true, false, cond, not, _&&_, _||_}
 use Prim.Native.Nat.{ℕ, _≤_, _<_}
 use native.Mathlib.Omega.{arith}
-use borrow.Author.Tests.{ltb-true, lt-ltb, leb-true, le-leb, eqb-true, eq-eqb}
+use borrow.Author.Tests.{ltb-true, ltb-false, lt-ltb, leb-true, le-leb, eqb-true, eq-eqb}
 use lib.Dec.{T, leb, ltb, eqb}
 use lib.IntN.{ℤ}
 use lib.Signed.{leZ, _≤ℤ_}
@@ -50,6 +50,14 @@ le-reads a b = (leb-true a b, le-leb a b)
 
 pub lt-reads : (a b : ℕ) → (ltb a b ≡ true) ↔ (a < b)
 lt-reads a b = (ltb-true a b, lt-ltb a b)
+
+-- a choice by which of two numbers is less
+pub by-less : {A : Type 0} (P : A → Type 0) (a b : ℕ) {u v : A} → (a < b → P u) → (b ≤ a → P v) → P (cond (ltb a b) u v)
+by-less P a b {u} {v} h k = go (ltb a b) refl
+  where
+    go : (t : Bool) → ltb a b ≡ t → P (cond t u v)
+    go true e = h (ltb-true a b e)
+    go false e = k (ltb-false a b e)
 
 pub eq-reads : (a b : ℕ) → (eqb a b ≡ true) ↔ (a ≡ b)
 eq-reads a b = (eqb-true a b, eq-eqb a b)

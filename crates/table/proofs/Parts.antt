@@ -20,7 +20,7 @@ module _ {A : Type 0} where
   length-part at n l h = simp (length-take, length-drop) (omega arith)
 
   -- a part that has few elements though more stand there was asked to have few
-  pub part-short : (at n most : ℕ) (l : List A) → at + most < length l → length (part at n l) ≤ most → n ≤ most
+  part-short : (at n most : ℕ) (l : List A) → at + most < length l → length (part at n l) ≤ most → n ≤ most
   part-short at n most l h few = let k = simp (length-take, length-drop) at few in omega arith
 
   -- a part of a part

@@ -1,30 +1,22 @@
 -- The span of some loading orders, by each order: whatever list has the same orders has the same span.
-use mathlib.Core.Path.{_≡_, refl}
+use mathlib.Core.Path.{_≡_}
 use mathlib.Core.Logic.{_↔_}
-use mathlib.Core.Bool.{Bool, true, false, cond}
+use mathlib.Core.Bool.{cond}
 use mathlib.Core.List.{List, [], _∷_, map}
 use Prim.Native.Nat.{ℕ, _≤_, min, max}
 use native.Mathlib.Omega.{arith}
-use borrow.Author.Tests.{ltb-true, ltb-false}
 use lib.Dec.{ltb}
 use Rattle.meaning.specs.Lists.{Every}
+use Rattle.meaning.proofs.Tests.{by-less}
 use Rattle.meaning.proofs.Permute.{Same, same-every}
 use Rattle.views.specs.Views.{spanOf}
 
 -- ---- one order more
 pub lower-one : (a b : ℕ) → cond (ltb a b) a b ≡ min a b
-lower-one a b = go (ltb a b) refl
-  where
-    go : (t : Bool) → ltb a b ≡ t → cond t a b ≡ min a b
-    go true e = omega (arith, ltb-true a b e)
-    go false e = omega (arith, ltb-false a b e)
+lower-one a b = by-less (λ n. n ≡ min a b) a b (λ h. omega arith) (λ h. omega arith)
 
 pub higher-one : (a b : ℕ) → cond (ltb b a) a b ≡ max a b
-higher-one a b = go (ltb b a) refl
-  where
-    go : (t : Bool) → ltb b a ≡ t → cond t a b ≡ max a b
-    go true e = omega (arith, ltb-true b a e)
-    go false e = omega (arith, ltb-false b a e)
+higher-one a b = by-less (λ n. n ≡ max a b) b a (λ h. omega arith) (λ h. omega arith)
 
 -- ---- the orders of a list's elements
 module _ {A : Type 0} (order : A → ℕ) where
