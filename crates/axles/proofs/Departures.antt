@@ -7,7 +7,7 @@ use native.Mathlib.Omega.{arith}
 use borrow.Author.Tests.{not-true}
 use lib.Dec.{leb}
 use lib.IntN.{ℤ}
-use lib.ListN.{length, getD, drop, drop-of-length-le}
+use lib.ListN.{length, getD}
 use mir.Syntax.{w64}
 use mir.Val.{SFits, toZ, ofZ}
 use Rattle.meaning.specs.declared.Limits.{Limits}
@@ -19,7 +19,7 @@ use Rattle.meaning.specs.Measures.{UsedTruck, usedBy, supplierOrder, stacksAt, 
 use Rattle.meaning.specs.Rules.{truckPlaces, departurePlaces, counts, withinLoadLimit, middleAxleHolds, rearAxleHolds}
 use Rattle.meaning.specs.Table.{instanceIn, stacksIn}
 use Rattle.meaning.proofs.Tests.{and-reads, between-reads}
-use Rattle.meaning.proofs.Lists.{every-map, every-reads, filter-all, in-at, length-upFrom, upFrom-at, drop-back}
+use Rattle.meaning.proofs.Lists.{every-map, every-reads, filter-all, in-at, length-upFrom, upFrom-at, Down, down-start, down-more, down-end}
 use Rattle.table.specs.Filled.{Filled, noStack}
 use Rattle.search.specs.Lowest.{lowestIn}
 use Rattle.visits.specs.Visits.{visitOrder, visitAt, block, OneTruck}
@@ -126,8 +126,7 @@ module _ (i : Instance) {p : List Stack} {start end : ℕ} (h : OneTruck p start
 
 -- ---- both axles hold: the departures after the current one break no rule
 pub record DownKept (i : Instance) (u : UsedTruck) (on : List Stack) (departure : ℕ) : Type 0 where
-  pub upto : departure ≤ length (departures i u)
-  pub is : (axle : Axle) → flatMap (departureAt (axleTest axle) i u on) (drop departure (departures i u)) ≡ []
+  pub each : (axle : Axle) → Down (flatMap (departureAt (axleTest axle) i u on)) (departures i u) departure []
 
 -- both axles of a truck hold, as the code tests it, or the departure does not count
 module _ (i : Instance) (t : Truck) (on : List Stack) where
@@ -144,19 +143,14 @@ module _ (i : Instance) (t : Truck) (on : List Stack) where
 module _ {i : Instance} {u : UsedTruck} {on : List Stack} where
   pub kept-start : {departure : ℕ} → departure ≡ length (departures i u) → DownKept i u on departure
   unfolding flatMap
-  kept-start {departure} e =
-      let h : length (departures i u) ≤ departure = omega arith in
-      record { upto = omega arith; is = λ axle. rw (drop-of-length-le (departures i u) h) refl }
+  kept-start e = record { each = λ axle. down-start e refl }
 
   -- one departure more
   pub kept-more : {k truck : ℕ} → DownKept i u on k → 0 < k → k ≡ getD (departures i u) (k - 1) 0 → truck ≡ u .truck
       → ((axle : Axle) → (counts (aboard i on 1 k) && not (axleTest axle i (truckNumbered i truck) (aboard i on 1 k))) ≡ false)
       → DownKept i u on (k - 1)
   unfolding flatMap departureAt
-  kept-more {k} h some e et held = record {
-    upto = omega (arith, h .upto);
-    is = λ axle. rw (drop-back (departures i u) k 0 some (h .upto), ← e, rw et at (held axle)) (h .is axle);
-  }
+  kept-more h some e et held = record { each = λ axle. down-more 0 (h .each axle) some (rw (← e, rw et at (held axle)) (h .each axle .is)) }
 
   pub kept-end : {k : ℕ} → DownKept i u on k → k ≤ 0 → (axle : Axle) → flatMap (departureAt (axleTest axle) i u on) (departures i u) ≡ []
-  kept-end {k} h none axle = let e : k ≡ 0 = omega arith in rw e at (h .is axle)
+  kept-end h none axle = sym (down-end (h .each axle) none)

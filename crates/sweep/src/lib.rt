@@ -15,7 +15,6 @@ use meaning::Limits;
 use pairrules::braces;
 use pairrules::in_loading_order;
 use pairrules::is_apart;
-use views::Footprint;
 use visits::as_index;
 use visits::footprint_at;
 use visits::row;

@@ -4,6 +4,7 @@ use Rattle.meaning.specs.Measures.{usedBy}
 use Rattle.meaning.specs.Table.{instanceIn, stacksIn}
 use Rattle.meaning.proofs.Tests.{true≢false}
 use Rattle.visits.specs.Visits.{visitAt, block}
+use Rattle.axles.specs.declared.Axle.the-variants.{Middle}
 use Rattle.axles.specs.Aboard.{axleTest}
 use Rattle.axles.proofs.Departures.{DownKept, kept-start, kept-more, kept-end, departures-length, departure-at, departures-are}
 use borrow.Author.Needs.{needs}
@@ -53,7 +54,7 @@ loop-again c =
     let truck = l .before .before in
     let s = truck .before .before .before in
     let more = u .before .loop-test .taken in
-    kept-more (l .loop .inv) more (departure-at (instanceIn (s .args .limits) (s .args .t .now)) (s .pre .1) more (l .loop .inv .upto))
+    kept-more (l .loop .inv) more (departure-at (instanceIn (s .args .limits) (s .args .t .now)) (s .pre .1) more (l .loop .inv .each Middle .upto))
     (truck .truck-at .ensures .0) (u .departure-holds .ensures (not-false _ (c .if1 .left)))
 
 returns-2 : tie.Need-returns-2 Inv-loop μ-loop
