@@ -300,19 +300,19 @@ pub fn axles_hold(t: &[u32], limits: Limits, rows: &[u32], start: usize, end: us
 {
     let truck = truck_at(t, limits, rows, start);
     let list = suppliers(t, limits, truck);
-    let mut departure = list.len() as u32;
-    while 0 < departure {
+    let mut left = list.len() as u32;
+    while 0 < left {
         let cargo = Cargo {
             truck,
             start,
             end,
             first: 1,
-            last: departure,
+            last: left,
         };
         if !departure_holds(t, limits, rows, cargo) {
             return false;
         }
-        departure -= 1;
+        left -= 1;
     }
     true
 }

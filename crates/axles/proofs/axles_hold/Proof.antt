@@ -13,12 +13,12 @@ use Rattle.axles.proofs.axles_hold.Statement.{statement}
 use Rattle.axles.proofs.axles_hold.Tie as tie
 
 abbrev Inv-loop : tie.InvT-loop
-Inv-loop t limits rows start end truck departure₀ departure =
+Inv-loop t limits rows start end truck left₀ left =
     let p = stacksIn limits t in
-    DownKept (instanceIn limits t) (usedBy (visitAt p start)) (block p start end) departure
+    DownKept (instanceIn limits t) (usedBy (visitAt p start)) (block p start end) left
 
 abbrev μ-loop : tie.MeasureT-loop
-μ-loop t limits rows start end truck departure₀ departure = departure
+μ-loop t limits rows start end truck left₀ left = left
 
 truck-at-requires : tie.Need-truck-at-requires Inv-loop μ-loop
 truck-at-requires c κs = search needs
@@ -26,8 +26,8 @@ truck-at-requires c κs = search needs
 suppliers-requires : tie.Need-suppliers-requires Inv-loop μ-loop
 suppliers-requires c κs = search needs
 
-cast-departure : tie.Need-cast-departure Inv-loop μ-loop
-cast-departure c = search needs
+cast-left : tie.Need-cast-left Inv-loop μ-loop
+cast-left c = search needs
 
 loop-holds : tie.Need-loop-holds Inv-loop μ-loop
 loop-holds c =
@@ -41,8 +41,8 @@ departure-holds-requires c κs = search needs
 returns : tie.Need-returns Inv-loop μ-loop
 returns c = λ e. absurd (true≢false (sym e))
 
-sub-departure : tie.Need-sub-departure Inv-loop μ-loop
-sub-departure c = search needs
+sub-left : tie.Need-sub-left Inv-loop μ-loop
+sub-left c = search needs
 
 loop-less : tie.Need-loop-less Inv-loop μ-loop
 loop-less c = search needs
@@ -72,11 +72,11 @@ axles-hold-spec =
     μ-loop
     truck-at-requires
     suppliers-requires
-    cast-departure
+    cast-left
     loop-holds
     departure-holds-requires
     returns
-    sub-departure
+    sub-left
     loop-less
     loop-again
     returns-2)
