@@ -3,7 +3,7 @@ ghost use mathlib.Core.Path.{_≡_};
 ghost use denote.Ref.{ptr};
 ghost use Rattle.meaning.specs.BadLine.{lineSpan, handedBack, partBytes};
 ghost use Rattle.badline.specs.Located.{spanOf, partOf, partFound, partPointer};
-use text::first_byte;
+use text::line_end;
 
 // Where a line stands in its file: from its first byte up to its end, which is not included.
 pub enum LineFound {
@@ -21,7 +21,7 @@ fn find_line(file: &[u8], line: u32) -> LineFound
     let mut left = line;
     let mut at: usize = 0;
     while at < file.len() {
-        let end = first_byte(file, at, 10);
+        let end = line_end(file, at);
         if left == 1 {
             return LineFound::At(at, end);
         }

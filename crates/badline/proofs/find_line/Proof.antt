@@ -20,13 +20,13 @@ returns c = no-such-line (c .before .before .args .line) (c .before .before .arg
 loop-holds : tie.Need-loop-holds Inv-loop μ-loop
 loop-holds c = walk-begins (c .before .before .args .file .now) (c .before .before .args .line) (omega arith)
 
-first-byte-requires : tie.Need-first-byte-requires Inv-loop μ-loop
-first-byte-requires c κs = search needs
+line-end-requires : tie.Need-line-end-requires Inv-loop μ-loop
+line-end-requires c κs = search needs
 
 returns-2 : tie.Need-returns-2 Inv-loop μ-loop
 returns-2 c =
     let l = c .before .before .before in
-    walk-found (l .loop .inv) (c .before .before .loop-test .taken) _ (c .before .first-byte .ensures) (c .if2 .taken)
+    walk-found (l .loop .inv) (c .before .before .loop-test .taken) _ (c .before .line-end .ensures) (c .if2 .taken)
 
 sub-left : tie.Need-sub-left Inv-loop μ-loop
 sub-left c = c .before .before .before .loop .inv .some
@@ -34,19 +34,19 @@ sub-left c = c .before .before .before .loop .inv .some
 add-at : tie.Need-add-at Inv-loop μ-loop
 add-at c =
     let l = c .before .before .before in
-    omega (arith, found-within 10 (l .before .before .before .args .file .now) (l .loop .at) _ (c .before .first-byte .ensures) (omega arith))
+    omega (arith, found-within 10 (l .before .before .before .args .file .now) (l .loop .at) _ (c .before .line-end .ensures) (omega arith))
 
 loop-less : tie.Need-loop-less Inv-loop μ-loop
-loop-less c = omega (arith, c .before .first-byte .ensures)
+loop-less c = omega (arith, c .before .line-end .ensures)
 
 loop-again : tie.Need-loop-again Inv-loop μ-loop
 loop-again c =
     let l = c .before .before .before in
-    walk-on (l .loop .inv) (c .before .before .loop-test .taken) _ (c .before .first-byte .ensures) (c .if2 .left)
+    walk-on (l .loop .inv) (c .before .before .loop-test .taken) _ (c .before .line-end .ensures) (c .if2 .left)
 
 returns-3 : tie.Need-returns-3 Inv-loop μ-loop
 returns-3 c = walk-ends (c .before .loop .inv) (c .loop-test .left)
 
 pub find-line-spec : {M : Type 1} → statement M
 find-line-spec =
-    tie.close (tie.spec Inv-loop μ-loop returns loop-holds first-byte-requires returns-2 sub-left add-at loop-less loop-again returns-3)
+    tie.close (tie.spec Inv-loop μ-loop returns loop-holds line-end-requires returns-2 sub-left add-at loop-less loop-again returns-3)
