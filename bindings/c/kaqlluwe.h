@@ -3,7 +3,7 @@
  * A file is given as a pointer to its bytes and their number, the table as a pointer to its words and their number. No pointer is null,
  * also where the number is 0; the table overlaps no file; and nothing else changes the bytes or words during a call. Beyond that the
  * caller need check nothing. A call keeps nothing, changes nothing but the table, always returns, and may be made by several threads at
- * once with a table each. It takes about 64 KB of stack. */
+ * once with a table each. It takes about 22 KB of stack. */
 #ifndef KAQLLUWE_H
 #define KAQLLUWE_H
 

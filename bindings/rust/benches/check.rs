@@ -99,7 +99,10 @@ fn print_kinds() {
     for (kind, times, bar) in kinds {
         let ratio = times.ratio();
         let met = if ratio <= bar { "met" } else { "missed" };
-        println!("| {kind} | {} | {ratio:.2} | {bar:.2}, {met} |", times.in_microseconds());
+        println!(
+            "| {kind} | {} | {ratio:.2} | {bar:.2}, {met} |",
+            times.in_microseconds()
+        );
     }
 }
 
