@@ -88,21 +88,6 @@ fn weight_part(t: &[u32], limits: Limits, rows: &[u32], cargo: Cargo, k: usize) 
     0
 }
 
-// The weight of the stacks that are on.
-fn weight_aboard(t: &[u32], limits: Limits, rows: &[u32], cargo: Cargo) -> u64
-    requires { ⌜ CargoIn limits (now t) (now rows) cargo ⌝ }
-    ensures { λ r. ⌜ (r ≡ weightOn (instanceIn limits (now (t .entry))) (cargoStacks limits (now (t .entry)) cargo)) × (r ≤ 3276800000) ⌝ }
-{
-    let start = cargo.start;
-    let mut sum: u64 = 0;
-    let mut k = cargo.end;
-    while start < k {
-        k -= 1;
-        sum = weight_part(t, limits, rows, cargo, k) + sum;
-    }
-    sum
-}
-
 // ---- levers
 
 // A stack's weight times twice the distance of its middle before the rear axle; `twice` is 2A.
@@ -136,29 +121,37 @@ fn lever_part(t: &[u32], limits: Limits, rows: &[u32], cargo: Cargo, k: usize, t
     0
 }
 
-// The levers of the stacks that are on.
-fn levers_aboard(t: &[u32], limits: Limits, rows: &[u32], cargo: Cargo) -> i64
+// What the stacks that are on bring together: their weight and their levers.
+struct Sums {
+    weight: u64,
+    levers: i64,
+}
+
+// Both sums in one walk.
+fn sums_aboard(t: &[u32], limits: Limits, rows: &[u32], cargo: Cargo) -> Sums
     requires { ⌜ CargoIn limits (now t) (now rows) cargo ⌝ }
-    ensures { λ r. ⌜ r ≡ ofCargo leversOf limits (now (t .entry)) cargo ⌝ }
+    ensures { λ r. ⌜ (r .weight ≡ weightOn (instanceIn limits (now (t .entry))) (cargoStacks limits (now (t .entry)) cargo))
+        × (r .weight ≤ 3276800000) × (r .levers ≡ ofCargo leversOf limits (now (t .entry)) cargo) ⌝ }
 {
     let start = cargo.start;
     let twice = twice_a(t, limits, cargo.truck);
-    let mut sum: i64 = 0;
+    let mut weight: u64 = 0;
+    let mut levers: i64 = 0;
     let mut k = cargo.end;
     while start < k {
         k -= 1;
-        sum = lever_part(t, limits, rows, cargo, k, twice) + sum;
+        weight = weight_part(t, limits, rows, cargo, k) + weight;
+        levers = lever_part(t, limits, rows, cargo, k, twice) + levers;
     }
-    sum
+    Sums { weight, levers }
 }
 
 // H: the levers of the stacks that are on, and of the trailer.
-fn moment(t: &[u32], limits: Limits, rows: &[u32], cargo: Cargo) -> i64
-    requires { ⌜ CargoIn limits (now t) (now rows) cargo ⌝ }
+fn moment(t: &[u32], limits: Limits, rows: &[u32], cargo: Cargo, levers: i64) -> i64
+    requires { ⌜ CargoIn limits (now t) (now rows) cargo × (levers ≡ ofCargo leversOf limits (now t) cargo) ⌝ }
     ensures is { λ r. ⌜ r ≡ ofCargo momentOf limits (now (t .entry)) cargo ⌝ }
     ensures moderate { λ r. ⌜ Moderate r ⌝ }
 {
-    let levers = levers_aboard(t, limits, rows, cargo);
     let em = truck_field(t, limits, cargo.truck, EM);
     let ejcr = truck_field(t, limits, cargo.truck, EJCR);
     levers + 2 * (em as i64) * (ejcr as i64)
@@ -199,8 +192,8 @@ fn axles_under(t: &[u32], limits: Limits, rows: &[u32], cargo: Cargo) -> AxlesHe
     ensures { λ r. ⌜ (r .middle ≡ ofCargo middleAxleHolds limits (now (t .entry)) cargo)
         × (r .rear ≡ ofCargo rearAxleHolds limits (now (t .entry)) cargo) ⌝ }
 {
-    let h = moment(t, limits, rows, cargo);
-    let weight = weight_aboard(t, limits, rows, cargo);
+    let sums = sums_aboard(t, limits, rows, cargo);
+    let h = moment(t, limits, rows, cargo, sums.levers);
     let truck = cargo.truck;
     let ejhr = truck_field(t, limits, truck, EJHR);
     let cm = truck_field(t, limits, truck, CM);
@@ -212,7 +205,7 @@ fn axles_under(t: &[u32], limits: Limits, rows: &[u32], cargo: Cargo) -> AxlesHe
     let emmr = truck_field(t, limits, truck, EMMR);
     AxlesHeld {
         middle: middle_holds(h, ejhr, cm, cjfc, cjfh, cjfm, emmm),
-        rear: rear_holds(h, ejhr, weight, em, emmr),
+        rear: rear_holds(h, ejhr, sums.weight, em, emmr),
     }
 }
 
@@ -331,8 +324,8 @@ pub fn overload_place(t: &[u32], limits: Limits, rows: &[u32], start: usize, end
         first: 0,
         last: MOST_SUPPLIERS,
     };
-    let weight = weight_aboard(t, limits, rows, cargo);
-    let within = weight <= (truck_field(t, limits, truck, LOAD_LIMIT) as u64);
+    let sums = sums_aboard(t, limits, rows, cargo);
+    let within = sums.weight <= (truck_field(t, limits, truck, LOAD_LIMIT) as u64);
     let copy = row_word(t, limits, rows, start, row::COPY);
     place_if(!within, truck, copy, 0)
 }

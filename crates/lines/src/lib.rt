@@ -85,11 +85,7 @@ fn are_distinct(words: &[u32]) -> bool
 fn are_identifiers(words: &[u32]) -> bool
     ensures { λ r. ⌜ r ≡ (all (between 1 65535) (now (words .entry)) && distinct (now (words .entry))) ⌝ }
 {
-    if all_between(words, 1, 65535) {
-        are_distinct(words)
-    } else {
-        false
-    }
+    all_between(words, 1, 65535) & are_distinct(words)
 }
 
 // ---- lines

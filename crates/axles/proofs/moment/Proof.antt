@@ -2,22 +2,16 @@
 use mathlib.Core.Path.{_∙_}
 use native.Mathlib.Omega.{arith}
 use borrow.Author.Needs.{needs}
-use mir.Syntax.{w64}
-use mir.Val.{SFits}
 use Rattle.axles.proofs.Signed.{Amount, size-moderate, unsigned, literal, given, plus, times}
 use Rattle.axles.proofs.Levers.{levers-size, moment-is}
 use Rattle.axles.proofs.moment.Statement.{statement}
 use Rattle.axles.proofs.moment.Tie as tie
 
-levers-fit : (c : tie.After-truck-field2) → SFits w64 (c .before .before .levers-aboard .result)
-levers-fit c = search needs
-
 -- the code's numbers
 abbrev levers : tie.After-truck-field2 → Amount
 levers c =
-    let l = c .before .before in
-    let s = l .before .before .before in
-    given (levers-fit c) (rw (← l .levers-aboard .ensures) at (levers-size (s .pre) (s .args .cargo .start)))
+    let s = c .before .before .before .before in
+    given (s .fits .levers) (rw (← s .pre .1) at (levers-size (s .pre .0) (s .args .cargo .start)))
 
 abbrev twice : tie.After-truck-field2 → Amount
 twice c = times (literal 2 tt) (unsigned (c .before .truck-field .ensures .1) tt) tt
@@ -27,9 +21,6 @@ trailer c = times (twice c) (unsigned (c .truck-field2 .ensures .1) tt) tt
 
 abbrev all : tie.After-truck-field2 → Amount
 all c = plus (levers c) (trailer c) tt
-
-levers-aboard-requires : tie.Need-levers-aboard-requires
-levers-aboard-requires c κs = search needs
 
 truck-field-requires : tie.Need-truck-field-requires
 truck-field-requires c κs = search needs
@@ -54,15 +45,14 @@ add-result c = all c .fits
 
 returns : tie.Need-returns
 returns c =
-    let l = c .before .before in
-    let is = moment-is _ _ _ (l .levers-aboard .ensures) (c .before .truck-field .ensures .0) (c .truck-field2 .ensures .0) in
+    let s = c .before .before .before .before in
+    let is = moment-is _ _ _ (s .pre .1) (c .before .truck-field .ensures .0) (c .truck-field2 .ensures .0) in
     (all c .same ∙ is, rw (all c .same) (size-moderate (all c .is) (omega (arith, all c .size))))
 
 pub moment-spec : {M : Type 1} → statement M
 moment-spec =
     tie.close
     (tie.spec
-    levers-aboard-requires
     truck-field-requires
     truck-field-requires-2
     cast-result
