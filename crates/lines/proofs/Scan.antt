@@ -1,11 +1,10 @@
 -- Tests over the words from an index on: what a word decides of them, and how they end.
 use mathlib.Core.Path.{_≡_, refl}
-use mathlib.Core.Bool.{Bool, true, false, _&&_, _||_}
+use mathlib.Core.Bool.{Bool, true, false, _&&_}
 use mathlib.Core.List.{List, [], _∷_}
 use Prim.Native.Nat.{ℕ, _+_, _-_, _≤_, _<_}
-use lib.Dec.{eqb}
 use lib.ListN.{length, getD, drop, drop-of-length-le}
-use Rattle.meaning.specs.Lists.{any, all, between, listed, distinct}
+use Rattle.meaning.specs.Lists.{all, between, listed, distinct}
 use Rattle.meaning.specs.Files.{allWithin}
 use Rattle.meaning.proofs.Lists.{drop-next, drop-back}
 use Rattle.lines.specs.Progress.{ranges}
@@ -16,11 +15,6 @@ module _ (ws : List ℕ) (i : ℕ) (some : 0 < i) (h : i ≤ length ws) where
   pub all-back : (test : ℕ → Bool) {rest : Bool} → rest ≡ all test (drop i ws) → test (getD ws (i - 1) 0) && rest ≡ all test (drop (i - 1) ws)
   unfolding all
   all-back test e = rw (drop-back ws i 0 some h, e) refl
-
-  -- whether a word is among them
-  pub listed-back : (n : ℕ) {rest : Bool} → rest ≡ listed n (drop i ws) → eqb n (getD ws (i - 1) 0) || rest ≡ listed n (drop (i - 1) ws)
-  unfolding any
-  listed-back n e = rw (drop-back ws i 0 some h, e) refl
 
   -- each word in its range
   pub within-back : (lows highs : List ℕ) → i ≤ length lows → i ≤ length highs → {rest : Bool}
@@ -46,10 +40,6 @@ module _ (ws : List ℕ) (i : ℕ) (h : length ws ≤ i) where
   pub all-end : (test : ℕ → Bool) → all test (drop i ws) ≡ true
   unfolding all
   all-end test = rw (drop-of-length-le ws h)
-
-  pub listed-end : (n : ℕ) → listed n (drop i ws) ≡ false
-  unfolding any
-  listed-end n = rw (drop-of-length-le ws h)
 
   pub distinct-end : distinct (drop i ws) ≡ true
   unfolding distinct

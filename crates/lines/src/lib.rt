@@ -4,7 +4,7 @@ ghost use mathlib.Core.Path.{_≡_};
 ghost use mathlib.Core.Bool.{_&&_};
 ghost use Prim.Native.Nat.{_-_, _≤_, _<_};
 ghost use lib.ListN.{length};
-ghost use Rattle.meaning.specs.Lists.{Every, all, between, listed, distinct, padded};
+ghost use Rattle.meaning.specs.Lists.{Every, all, between, distinct, padded};
 ghost use Rattle.meaning.specs.Text.{Form, bytes};
 ghost use Rattle.meaning.specs.Reader.{line};
 ghost use Rattle.meaning.specs.Files.{allWithin, rowLine, identifiersLine, numberLine, _to_};
@@ -12,6 +12,7 @@ ghost use Rattle.meaning.specs.Table.{countedWords, largestWord};
 ghost use Rattle.lines.specs.Progress.{Key, reached, resumed, entriesOf, Sound, unjudged, judgedAs};
 ghost use Rattle.lines.specs.Progress.{endedAs, Unpassed, Stored, RefusesLargest, ranges, ReadEntries};
 use table::clear;
+use table::is_listed;
 use text::ParsedLine;
 use text::parse_line;
 
@@ -51,19 +52,6 @@ pub fn all_between(words: &[u32], low: u32, high: u32) -> bool
         inside = ((low <= words[i]) & (words[i] <= high)) & inside;
     }
     inside
-}
-
-// Whether the word is listed.
-fn is_listed(words: &[u32], word: u32) -> bool
-    ensures { λ r. ⌜ r ≡ listed word (now (words .entry)) ⌝ }
-{
-    let mut found = false;
-    let mut i = words.len();
-    while 0 < i {
-        i -= 1;
-        found = (word == words[i]) | found;
-    }
-    found
 }
 
 // Whether no word is listed twice.

@@ -41,11 +41,11 @@ use table::fields::TL;
 use table::fields::TOP_LIMIT;
 use table::fields::TP;
 use table::fields::TW;
+use table::is_listed;
 use table::item_count;
 use table::item_field;
 use table::load_count;
 use table::load_entry;
-use table::order_in;
 use table::products;
 use table::stack_count;
 use table::stack_field;
@@ -145,7 +145,7 @@ fn product_carried(t: &[u32], limits: Limits, s: usize, n: u32) -> bool
         (item (instanceIn limits (now (t .entry))) n) ⌝ }
 {
     let list = products(t, limits, stack_truck(t, limits, s));
-    1 <= order_in(list, item_field(t, limits, n, IR))
+    is_listed(list, item_field(t, limits, n, IR))
 }
 
 // 12 supplier, I4: the truck stops at the item's supplier.

@@ -2,7 +2,7 @@
 ghost use mathlib.Core.Path.{_≡_};
 ghost use Prim.Native.Nat.{_+_, _≤_, _<_};
 ghost use lib.ListN.{length, getD, take, drop, replicate};
-ghost use Rattle.meaning.specs.Lists.{orderIn};
+ghost use Rattle.meaning.specs.Lists.{listed, orderIn};
 ghost use Rattle.meaning.specs.Limits.{small, trucksAt, stacksAt, loadsAt, named};
 ghost use Rattle.meaning.specs.Model.{item, truckNumbered, truck};
 ghost use Rattle.meaning.specs.Table.{instanceIn, stacksIn, truckPlace, loadFirst};
@@ -235,6 +235,19 @@ pub fn order_in(list: &[u32], identifier: u32) -> usize
         i += 1;
     }
     0
+}
+
+// Whether an identifier is in its line. The loop is not left early: without a branch the compiler compares several at once.
+pub fn is_listed(list: &[u32], identifier: u32) -> bool
+    ensures { λ r. ⌜ r ≡ listed identifier (now (list .entry)) ⌝ }
+{
+    let mut found = false;
+    let mut i = list.len();
+    while 0 < i {
+        i -= 1;
+        found = (identifier == list[i]) | found;
+    }
+    found
 }
 
 // A field of a stack's line. Stacks go by their place in the file, from 0.

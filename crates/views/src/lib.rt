@@ -159,6 +159,22 @@ pub fn supplier_order(t: &[u32], limits: Limits, s: usize, supplier: u32) -> usi
     order_in(suppliers(t, limits, stack_truck(t, limits, s)), supplier)
 }
 
+// The loading order of an item's supplier dock among the docks of its supplier, whose own loading order is given.
+fn dock_order(t: &[u32], limits: Limits, s: usize, n: u32, order: usize) -> usize
+    requires { ⌜ Filled limits (now t) × (s < length (stacksIn limits (now t))) × ItemNumber (instanceIn limits (now t)) n
+        × (order ≡ orderIn (truckOf (instanceIn limits (now t)) (stackAt (stacksIn limits (now t)) s) .suppliers)
+        (getD (item (instanceIn limits (now t)) n) 13 0))
+        × (order ≤ length (truckOf (instanceIn limits (now t)) (stackAt (stacksIn limits (now t)) s) .suppliers)) ⌝ }
+    ensures { λ r. ⌜ (r ≡ supplierDockOrder (instanceIn limits (now (t .entry))) (stackAt (stacksIn limits (now (t .entry))) s)
+        (item (instanceIn limits (now (t .entry))) n)) × (r ≤ 8) ⌝ }
+{
+    if order == 0 {
+        return 0;
+    }
+    let list = docks(t, limits, stack_truck(t, limits, s), order);
+    order_in(list, item_field(t, limits, n, IK))
+}
+
 // The loading order of an item's supplier dock among the docks of its supplier.
 pub fn supplier_dock_order(t: &[u32], limits: Limits, s: usize, n: u32) -> usize
     requires { ⌜ Filled limits (now t) × (s < length (stacksIn limits (now t))) × ItemNumber (instanceIn limits (now t)) n ⌝ }
@@ -166,11 +182,7 @@ pub fn supplier_dock_order(t: &[u32], limits: Limits, s: usize, n: u32) -> usize
         (item (instanceIn limits (now (t .entry))) n)) × (r ≤ 8) ⌝ }
 {
     let order = supplier_order(t, limits, s, item_field(t, limits, n, IU));
-    if order == 0 {
-        return 0;
-    }
-    let list = docks(t, limits, stack_truck(t, limits, s), order);
-    order_in(list, item_field(t, limits, n, IK))
+    dock_order(t, limits, s, n, order)
 }
 
 // The loading order of an item's plant dock.
@@ -233,11 +245,12 @@ pub fn read_rank(t: &[u32], limits: Limits, s: usize) -> Rank
     let bottom = load_entry(t, limits, s, 0);
     let supplier = item_field(t, limits, bottom, IU);
     let span = plant_dock_span(t, limits, s);
+    let order = supplier_order(t, limits, s, supplier);
     Rank {
         supplier,
         dock: item_field(t, limits, bottom, IK),
-        supplier_order: supplier_order(t, limits, s, supplier) as u32,
-        dock_order: supplier_dock_order(t, limits, s, bottom) as u32,
+        supplier_order: order as u32,
+        dock_order: dock_order(t, limits, s, bottom, order) as u32,
         lowest: span.lowest,
         highest: span.highest,
     }

@@ -1,11 +1,10 @@
--- `stackrules::product_carried`: an identifier has a loading order exactly when it is listed.
-use mathlib.Core.Path.{ap, _∙_}
+-- `stackrules::product_carried`: the list is that of the stack's truck.
+use mathlib.Core.Path.{ap, ap₂, _∙_}
 use Prim.Native.Nat.{ℕ}
 use borrow.Author.Needs.{needs}
-use Rattle.meaning.specs.Model.{item, truckNumbered, truckOf, IR}
-use Rattle.meaning.specs.Table.{instanceIn, stacksIn}
-use Rattle.table.specs.Filled.{stackAt}
-use Rattle.stackrules.proofs.Items.{order-listed}
+use Rattle.meaning.specs.Lists.{listed}
+use Rattle.meaning.specs.Model.{truckNumbered}
+use Rattle.meaning.specs.Table.{instanceIn}
 use Rattle.stackrules.proofs.product_carried.Statement.{statement}
 use Rattle.stackrules.proofs.product_carried.Tie as tie
 
@@ -18,8 +17,8 @@ products-requires c κs = search needs
 item-field-requires : tie.Need-item-field-requires
 item-field-requires c κs = search needs
 
-order-in-requires : tie.Need-order-in-requires
-order-in-requires c κs = search needs
+is-listed-requires : tie.Need-is-listed-requires
+is-listed-requires c κs = search needs
 
 returns : tie.Need-returns
 returns c =
@@ -27,11 +26,10 @@ returns c =
     let l = f .before in
     let a = l .before .before .before .args in
     let i = instanceIn (a .limits) (a .t .now) in
-    let s = stackAt (stacksIn (a .limits) (a .t .now)) (a .s) in
     let list = l .products .ensures .0 ∙ ap (λ (k : ℕ). truckNumbered i k .products) (l .before .stack-truck .ensures .0) in
-    order-listed (truckOf i s .products) (IR (item i (a .n))) list (f .item-field .ensures .0) (c .order-in .ensures .0)
+    c .is-listed .ensures ∙ ap₂ listed (f .item-field .ensures .0) list
 
 pub product-carried-spec : {M : Type 1} → statement M
 product-carried-spec =
     tie.close
-    (tie.spec stack-truck-requires products-requires item-field-requires order-in-requires returns)
+    (tie.spec stack-truck-requires products-requires item-field-requires is-listed-requires returns)

@@ -1,22 +1,22 @@
 -- From the last word down: the words from the index on decide what was found so far.
-use mathlib.Core.Path.{_≡_, sym}
+use mathlib.Core.Path.{_≡_}
 use Prim.Native.Nat.{_≤_}
 use native.Mathlib.Omega.{arith}
 use lib.ListN.{length, drop}
 use Rattle.meaning.specs.Lists.{listed}
-use Rattle.lines.proofs.Scan.{listed-back, listed-end}
+use Rattle.table.proofs.Order.{listed-back, listed-end}
 use borrow.Author.Needs.{needs}
-use Rattle.lines.proofs.is_listed.Statement.{statement}
-use Rattle.lines.proofs.is_listed.Tie as tie
+use Rattle.table.proofs.is_listed.Statement.{statement}
+use Rattle.table.proofs.is_listed.Tie as tie
 
 abbrev Inv-loop : tie.InvT-loop
-Inv-loop words word found₀ i₀ found i = (i ≤ length words) × (found ≡ listed word (drop i words))
+Inv-loop list identifier found₀ i₀ found i = (i ≤ length list) × (found ≡ listed identifier (drop i list))
 
 abbrev μ-loop : tie.MeasureT-loop
-μ-loop words word found₀ i₀ found i = i
+μ-loop list identifier found₀ i₀ found i = i
 
 loop-holds : tie.Need-loop-holds Inv-loop μ-loop
-loop-holds c = let a = c .args in (omega arith, sym (listed-end (a .words .now) (length (a .words .now)) (omega arith) (a .word)))
+loop-holds c = let a = c .args in (omega arith, listed-end (a .list .now) (a .identifier))
 
 sub-i : tie.Need-sub-i Inv-loop μ-loop
 sub-i c = search needs
@@ -34,7 +34,7 @@ loop-again : tie.Need-loop-again Inv-loop μ-loop
 loop-again c =
     let l = c .before .before in
     let a = l .before .args in
-    (omega arith, listed-back (a .words .now) (l .loop .i) (omega arith) (omega arith) (a .word) (l .loop .inv .1))
+    (omega arith, listed-back (a .list .now) (l .loop .i) (omega arith) (omega arith) (a .identifier) (l .loop .inv .1))
 
 returns : tie.Need-returns Inv-loop μ-loop
 returns c =
