@@ -1,17 +1,17 @@
--- Bytes from an index on: what the byte at the index decides of a count, of a value after its key and of a number's digits.
+-- Bytes from an index on: what the byte at the index decides of a count and of a value after its key.
 use mathlib.Core.Path.{_≡_, refl, sym}
 use mathlib.Core.Logic.{_↔_}
 use mathlib.Core.Bool.{Bool, true, false, cond}
 use mathlib.Core.Option.{none, some}
 use mathlib.Core.List.{List, [], _∷_}
-use Prim.Native.Nat.{ℕ, zero, suc, _+_, _-_, _*_, _≤_, _<_}
+use Prim.Native.Nat.{ℕ, zero, suc, _+_, _-_, _≤_, _<_}
 use native.Mathlib.Nat.{add-zero}
 use native.Mathlib.Omega.{arith}
 use borrow.Author.Tests.{eqb-false, eq-eqb, ne-eqb}
 use lib.Dec.{eqb, ltb}
 use lib.ListN.{length, getD, take, drop, length-drop, drop-of-length-le}
 use lib.Seq.{take-all}
-use Rattle.meaning.specs.Text.{countBefore, valueAfter, isDigit, decimalFrom}
+use Rattle.meaning.specs.Text.{countBefore, valueAfter}
 use Rattle.meaning.proofs.Tests.{or-false, same-test, lt-reads, iff-trans, iff-sym}
 use Rattle.meaning.proofs.Lists.{drop-next}
 use Rattle.text.specs.Words.{oneOf}
@@ -87,13 +87,3 @@ value-short (k ∷ key) (b ∷ line) h = go (eqb k b) (value-short key line (ome
     go : (t : Bool) → valueAfter key line ≡ none → cond t (valueAfter key line) none ≡ none
     go true e = e
     go false e = refl
-
--- ---- the digits of a number, of which v stands in front
-pub decimal-at : (v : ℕ) (bs : List ℕ) (i : ℕ) → i < length bs
-    → decimalFrom v (drop i bs) ≡ cond (isDigit (getD bs i 0)) (decimalFrom (10 * v + (getD bs i 0 - 48)) (drop (i + 1) bs)) none
-unfolding decimalFrom
-decimal-at v bs i h = rw (drop-next bs i 0)
-
-pub decimal-end : (v : ℕ) (bs : List ℕ) (i : ℕ) → length bs ≤ i → decimalFrom v (drop i bs) ≡ some v
-unfolding decimalFrom
-decimal-end v bs i h = rw (drop-of-length-le bs h)

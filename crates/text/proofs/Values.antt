@@ -14,11 +14,11 @@ use lib.Seq.{sets, drop-drop}
 use Rattle.meaning.specs.Lists.{between}
 use Rattle.meaning.specs.Text.{countBefore, number, numbers, andNumbers, commaParts, ontoFirst}
 use Rattle.meaning.proofs.Tests.{lt-reads}
-use Rattle.text.specs.declared.Parsed.the-variants.{Word, Malformed}
 use Rattle.text.specs.declared.ParsedNumbers.{ParsedNumbers}
 use Rattle.text.specs.declared.ParsedNumbers.the-variants.{Count, Malformed as NoNumbers}
-use Rattle.text.specs.Words.{word, parsedNumber, parsedNumbers, ontoWords, leading}
-use Rattle.text.proofs.Bytes.{found-size, found-test}
+use Rattle.text.specs.Words.{firstPart, parsedNumbers, ontoWords, leading}
+use Rattle.text.proofs.Bytes.{found-test}
+use Rattle.text.proofs.Numbers.{IsWordOf}
 
 -- ---- the first part ends before the first comma; after the comma stand the others
 parts-split : (bs : List ℕ)
@@ -38,11 +38,11 @@ parts-split (b ∷ bs) = go (eqb b 44) (parts-split bs)
 
 -- the same from an index on, where the next comma's index is known
 pub parts-at : (value : List ℕ) (from end : ℕ) → end ≡ from + countBefore 44 (drop from value)
-    → commaParts (drop from value) ≡ take (end - from) (drop from value) ∷ cond (ltb end (length value)) (commaParts (drop (end + 1) value)) []
+    → commaParts (drop from value) ≡ firstPart (drop from value) ∷ cond (ltb end (length value)) (commaParts (drop (end + 1) value)) []
 parts-at value from end found =
     let n = countBefore 44 (drop from value) in
     let behind : end + 1 ≡ from + suc n = omega arith in
-    rw (found-size 44 value from end found, found-test 44 value from end found, behind, ← drop-drop (suc n) from value) (parts-split (drop from value))
+    rw (found-test 44 value from end found, behind, ← drop-drop (suc n) from value) (parts-split (drop from value))
 
 -- ---- the answer where k numbers were read before these
 abbrev pub answerAfter : ℕ → ℕ → ℕ → Option (List ℕ) → ParsedNumbers
@@ -56,12 +56,10 @@ module _ (least most : ℕ) where
   after-none (some ns) = rw zero-add
 
   -- one number more
-  after-one : (k w : ℕ) (o : Option ℕ) (os : Option (List ℕ)) → Word w ≡ parsedNumber o
-      → answerAfter least most k (andNumbers o os) ≡ answerAfter least most (k + 1) os
-  unfolding andNumbers parsedNumber
-  after-one k w none os e = cc
-  after-one k w (some n) none e = refl
-  after-one k w (some n) (some ns) e = let same : k + suc (length ns) ≡ k + 1 + length ns = omega arith in rw same
+  after-one : (k n : ℕ) (os : Option (List ℕ)) → answerAfter least most k (andNumbers (some n) os) ≡ answerAfter least most (k + 1) os
+  unfolding andNumbers
+  after-one k n none = refl
+  after-one k n (some ns) = let same : k + suc (length ns) ≡ k + 1 + length ns = omega arith in rw same
 
   -- more numbers than there is room for
   after-full : (k : ℕ) (os : Option (List ℕ)) → most < k → answerAfter least most k os ≡ NoNumbers
@@ -70,21 +68,11 @@ module _ (least most : ℕ) where
       let over : most < k + length ns = omega arith in
       simp (lt-leb (k + length ns) most over, and-false)
 
--- a part that is no number is the end of the words; one that is a number is the next
+-- a part that is no number is the end of the words
 leading-none : (room : ℕ) (part : List ℕ) (parts : List (List ℕ)) → number part ≡ none → leading room (part ∷ parts) ≡ []
 unfolding leading ontoWords
 leading-none zero part parts e = refl
 leading-none (suc room) part parts e = rw e
-
-onto-word : (w : ℕ) (o : Option ℕ) (ws : List ℕ) → Word w ≡ parsedNumber o → ontoWords o ws ≡ w ∷ ws
-unfolding ontoWords parsedNumber
-onto-word w none ws e = cc
-onto-word w (some n) ws e = let same : word n ≡ w = cc in rw same
-
-no-number : (o : Option ℕ) → Malformed ≡ parsedNumber o → o ≡ none
-unfolding parsedNumber
-no-number none e = refl
-no-number (some n) e = cc
 
 -- ---- the state of the loop: these parts are still to come, and they give the same answer and the same words as all parts do
 pub record ToCome (least : ℕ) (all : List (List ℕ)) (out₀ out : List ℕ) (count : ℕ) (parts : List (List ℕ)) : Type 0 where
@@ -114,16 +102,14 @@ module _ {least : ℕ} {all : List (List ℕ)} {out₀ out : List ℕ} {count : 
 
   module _ {part : List ℕ} {parts : List (List ℕ)} (t : ToCome least all out₀ out count (part ∷ parts)) where
     -- the part is no number
-    pub malformed : Malformed ≡ parsedNumber (number part) → Promised least all out₀ out NoNumbers
+    pub malformed : number part ≡ none → Promised least all out₀ out NoNumbers
     unfolding numbers andNumbers
-    malformed e =
-        let none-here = no-number (number part) e in
-        (rw none-here at (t .answer), rw (leading-none (length out - count) part parts none-here) at (t .words))
+    malformed e = (rw e at (t .answer), rw (leading-none (length out - count) part parts e) at (t .words))
 
-    module _ {w : ℕ} (e : Word w ≡ parsedNumber (number part)) where
+    module _ {w : ℕ} (e : IsWordOf part w) where
       later : answerAfter least (length out₀) (count + 1) (numbers parts) ≡ parsedNumbers least (length out₀) (numbers all)
       unfolding numbers
-      later = sym (after-one least (length out₀) count w (number part) (numbers parts) e) ∙ t .answer
+      later = sym (after-one least (length out₀) count (e .0) (numbers parts)) ∙ rw (e .1) at (t .answer)
 
       -- there is no room for it
       pub no-room : count ≡ length out → Promised least all out₀ out NoNumbers
@@ -135,12 +121,12 @@ module _ {least : ℕ} {all : List (List ℕ)} {out₀ out : List ℕ} {count : 
 
       -- it is stored
       pub stored : count < length out → ToCome least all out₀ (set out count w) (count + 1) parts
-      unfolding leading
+      unfolding leading ontoWords
       stored h =
           let left : length out - count ≡ suc (length out - suc count) = omega arith in
           record {
             long = length-set out count w ∙ t .long;
             room = rw length-set (omega arith);
             answer = later;
-            words = rw (length-set, add-one) (rw (left, onto-word w (number part) (leading (length out - suc count) parts) e) at (t .words));
+            words = rw (length-set, add-one) (rw (left, e .1, ← e .2) at (t .words));
           }

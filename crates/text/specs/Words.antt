@@ -26,10 +26,19 @@ oneOf c bs i zero = false
 oneOf c bs i (suc zero) = eqb (getD bs i 0) c
 oneOf c bs i (suc (suc n)) = oneOf c bs i (suc n) || eqb (getD bs (i + suc n) 0) c
 
--- of some bytes that are a number, or none
-unfoldable pub parsedNumber : Option ℕ → Parsed
-parsedNumber none = Malformed
-parsedNumber (some n) = Word (word n)
+-- of a part that ends before the place `end` and is a number, or none
+unfoldable pub parsedNumber : ℕ → Option ℕ → Parsed
+parsedNumber end none = Malformed
+parsedNumber end (some n) = Word (word n) end
+
+-- the bytes before the first comma
+abbrev pub firstPart : List ℕ → List ℕ
+firstPart bs = take (countBefore 44 bs) bs
+
+-- of the first part of some bytes, which begin at the place `from` of their value
+unfoldable pub parsedPart : ℕ → List ℕ → Parsed
+unfolding parsedNumber number countBefore
+parsedPart from bs = parsedNumber (from + countBefore 44 bs) (number (firstPart bs))
 
 -- of numbers that are to be `least` to `most`
 unfoldable pub parsedNumbers : ℕ → ℕ → Option (List ℕ) → ParsedNumbers

@@ -5,8 +5,8 @@ ghost use mathlib.Core.Option.{none, some};
 ghost use Prim.Native.Nat.{_+_, _≤_};
 ghost use lib.ListN.{length, drop};
 ghost use lib.Seq.{sets};
-ghost use Rattle.meaning.specs.Text.{isDigit, countBefore, number, numbers, commaParts, valueAfter};
-ghost use Rattle.text.specs.Words.{word, parsedNumber, parsedNumbers, leading, parsedLine, lineWords, oneOf};
+ghost use Rattle.meaning.specs.Text.{isDigit, countBefore, numbers, commaParts, valueAfter};
+ghost use Rattle.text.specs.Words.{word, parsedPart, parsedNumbers, leading, parsedLine, lineWords, oneOf};
 
 // The index of the first such byte from `from` on; the length where there is none, and `from` where that is past the end.
 pub fn first_byte(bytes: &[u8], from: usize, byte: u8) -> usize
@@ -105,35 +105,42 @@ pub fn as_word(n: u64) -> u32
     if n < 4294967295 { n as u32 } else { 4294967295 }
 }
 
-// What some bytes are: a number, or none.
+// What stands at a place of a value: a number and where it ends, or none.
 pub enum Parsed {
-    Word(u32),
+    Word(u32, usize),
     Malformed,
 }
 
-// The number that the bytes are: 1 to 10 digits, without needless leading zero.
-pub fn parse_number(digits: &[u8]) -> Parsed
-    ensures { λ r. ⌜ r ≡ parsedNumber (number (now (digits .entry))) ⌝ }
+// The number from `from` on, which ends before a comma or where the value ends: 1 to 10 digits, without needless leading zero. It is worked out
+// on the way to its end, since a second walk over the digits takes time.
+pub fn parse_number(value: &[u8], from: usize) -> Parsed
+    ensures { λ r. ⌜ r ≡ parsedPart from (drop from (now (value .entry))) ⌝ }
 {
-    if !((1 <= digits.len()) & (digits.len() <= 10)) {
-        return Parsed::Malformed;
-    }
-    if 1 < digits.len() {
-        if digits[0] == 48 {
-            return Parsed::Malformed;
-        }
-    }
     let mut n: u64 = 0;
-    let mut i = 0;
-    while i < digits.len() {
-        let digit = digits[i];
-        if !is_digit(digit) {
+    let mut i = from;
+    while i < value.len() {
+        let byte = value[i];
+        if !is_digit(byte) {
+            if byte == 44 {
+                break;
+            }
             return Parsed::Malformed;
         }
-        n = 10 * n + widened(digit - 48);
+        if i - from == 10 {
+            return Parsed::Malformed;
+        }
+        n = 10 * n + widened(byte - 48);
         i += 1;
     }
-    Parsed::Word(as_word(n))
+    if i == from {
+        return Parsed::Malformed;
+    }
+    if 1 < i - from {
+        if value[from] == 48 {
+            return Parsed::Malformed;
+        }
+    }
+    Parsed::Word(as_word(n), i)
 }
 
 // How many numbers a value has; or that it has a part that is no number, too few numbers, or more than there is room for.
@@ -151,9 +158,8 @@ pub fn parse_numbers(value: &[u8], least: usize, out: &mut [u32]) -> ParsedNumbe
     let mut count: usize = 0;
     let mut from: usize = 0;
     loop {
-        let end = first_byte(value, from, 44);
-        match parse_number(&value[from..end]) {
-            Parsed::Word(w) => {
+        match parse_number(value, from) {
+            Parsed::Word(w, end) => {
                 if count == out.len() {
                     return ParsedNumbers::Malformed;
                 }

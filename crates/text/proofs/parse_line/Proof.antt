@@ -16,7 +16,7 @@ returns : tie.Need-returns
 returns c =
     let f = c .before in
     let a = f .before .before .before .before .args in
-    unended (a .key .now) (a .least) (a .out .now) (a .bytes .now) (a .at) (f .line-end .result) (f .line-end .ensures) (c .if1 .taken)
+    unended (a .key .now) (a .least) (a .out .now) (a .bytes .now) (a .at) (f .line-end .result) (f .line-end .ensures) (omega (arith, c .if1 .taken))
 
 sub-line : tie.Need-sub-line
 sub-line c = search needs
