@@ -91,7 +91,7 @@ fn print_kinds() {
         (
             "full size, unreadable at the last line",
             mean(|draw| generator::unreadable_at_the_end(256, draw)),
-            BAR,
+            FULL_SIZE_BAR,
         ),
     ];
     println!("| Load | check, µs | reference, µs | ratio | bar |");
