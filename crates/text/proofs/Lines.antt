@@ -10,8 +10,9 @@ use lib.ListN.{length, take, drop}
 use lib.Seq.{sets}
 use Rattle.meaning.specs.Text.{countBefore, numbers, commaParts, valueAfter, numbersOf}
 use Rattle.text.specs.declared.ParsedNumbers.{ParsedNumbers}
+use Rattle.text.specs.declared.ParsedNumbers.the-variants.{Count}
 use Rattle.text.specs.declared.ParsedLine.{ParsedLine}
-use Rattle.text.specs.declared.ParsedLine.the-variants.{WrongForm}
+use Rattle.text.specs.declared.ParsedLine.the-variants.{Next, WrongForm}
 use Rattle.text.specs.Words.{parsedNumbers, lineAnswer, parsedLine, leading, valueWords, lineWords}
 use Rattle.text.proofs.Bytes.{found-size, found-test}
 
@@ -19,6 +20,11 @@ use Rattle.text.proofs.Bytes.{found-size, found-test}
 module _ (key : List ℕ) (least : ℕ) (out bytes : List ℕ) (at : ℕ) where
   abbrev pub LinePromise : List ℕ → ParsedLine → Type 0
   LinePromise out₁ r = (r ≡ parsedLine key least (length out) at (drop at bytes)) × (out₁ ≡ sets out 0 (lineWords key (length out) (drop at bytes)))
+
+  -- the next line begins behind the byte 10
+  pub next-line : (end : ℕ) {next count : ℕ} {out₁ : List ℕ} → LinePromise out₁ (lineAnswer end (Count count)) → next ≡ end + 1 → LinePromise out₁ (Next next count)
+  unfolding lineAnswer
+  next-line end promise e = rw e promise
 
   -- the bytes of the line, which is there where a byte 10 is
   module _ (end : ℕ) where

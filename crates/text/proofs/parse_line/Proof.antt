@@ -5,7 +5,7 @@ use borrow.Author.Needs.{needs}
 use borrow.Author.Tests.{not-true, not-false}
 use Rattle.text.specs.declared.ParsedNumbers.{ParsedNumbers}
 use Rattle.text.specs.Words.{lineAnswer}
-use Rattle.text.proofs.Lines.{LinePromise, unended, other-key, keyed-line}
+use Rattle.text.proofs.Lines.{LinePromise, next-line, unended, other-key, keyed-line}
 use Rattle.text.proofs.parse_line.Statement.{statement}
 use Rattle.text.proofs.parse_line.Tie as tie
 
@@ -71,8 +71,10 @@ same-length : tie.Need-same-length
 same-length c = search needs
 
 returns-3 : tie.Need-returns-3
-unfolding lineAnswer
-returns-3 c = read (c .before .before .before .before .before) _ (c .before .count .given .1)
+returns-3 c =
+    let p = c .before .before .before .before .before in
+    let a = found p .before .before .before .before .args in
+    next-line (a .key .now) (a .least) (a .out .now) (a .bytes .now) (a .at) (found p .line-end .result) (read p _ (c .before .count .given .1)) (omega arith)
 
 same-length-2 : tie.Need-same-length-2
 same-length-2 c = search needs
