@@ -15,7 +15,7 @@ use Rattle.meaning.specs.declared.Place.{Place}
 use Rattle.meaning.specs.Lists.{Every, onlyIf}
 use Rattle.meaning.specs.Places.{place}
 use Rattle.meaning.specs.Model.{Instance, Truck, Stack, truckNumbered, TMm, CM, CJfm, CJfc, CJfh, EM, EJhr, EMmr, EMmm}
-use Rattle.meaning.specs.Measures.{UsedTruck, usedBy, supplierOrder, stacksAt, departures, weightOn, H}
+use Rattle.meaning.specs.Measures.{UsedTruck, usedBy, supplierOrder, stacksAtDeparture, departures, weightOn, H}
 use Rattle.meaning.specs.Rules.{truckPlaces, departurePlaces, counts, withinLoadLimit, middleAxleHolds, rearAxleHolds}
 use Rattle.meaning.specs.Table.{instanceIn, stacksIn}
 use Rattle.meaning.proofs.Tests.{and-reads, between-reads}
@@ -67,7 +67,7 @@ module _ (i : Instance) (kept : Instance → Truck → List Stack → Bool) (u :
   truck-one = rw (used-one u p some one, all-on u p one) (append-nil _)
 
   departures-one : departurePlaces kept i p ≡ flatMap (departureAt kept i u p) (departures i u)
-  unfolding departurePlaces flatMap departureAt stacksAt aboard
+  unfolding departurePlaces flatMap departureAt stacksAtDeparture aboard
   departures-one =
       rw (used-one u p some one) (append-nil _) ∙ ap (λ (on : List Stack). flatMap (departureAt kept i u on) (departures i u)) (all-on u p one)
 

@@ -16,7 +16,7 @@ use Rattle.meaning.specs.Verdict.{refusal, verdictOn}
 use Rattle.meaning.specs.Check.{Reading, refused, readable, readFiles, answerTo, answer, tableAfter}
 use Rattle.meaning.specs.Claims.{Readable as Files}
 use Rattle.meaning.proofs.TableAfter.{table-after}
-use Rattle.meaning.proofs.Readable.{readable-answer, readable-exactly}
+use Rattle.meaning.proofs.Readable.{readable-answer, readable-exactly, decided}
 use Rattle.meaning.proofs.Feasible.{accepted-when-feasible}
 use Rattle.meaning.proofs.AnyOrder.{order-free, any-order}
 use Rattle.table.specs.Filled.{Filled}
@@ -39,6 +39,9 @@ module _ (m : Limits) (instance plan table₀ table : List ℕ) (a : Answer) whe
       record {
         answered = e;
         words = w;
+        tablePromise = rw w (table-after m table₀ instance plan);
+        acceptedExactly = λ r. rw e (decided m (length table₀) instance plan r .accepted);
+        refusedExactly = λ r. rw e (decided m (length table₀) instance plan r .refused);
         readableExactly = rw e (readable-exactly m (length table₀) instance plan);
         acceptedWhenFeasible = λ r. rw e (accepted-when-feasible m (length table₀) instance plan r);
         orderFree = λ r plan′ o. let t = order-free m (length table₀) instance plan plan′ r o in (t .0, t .1 ∙ sym e);

@@ -23,7 +23,7 @@ pub record HeadNumbers : Type 0 where
   pub items : ℕ
   pub trucks : ℕ
 
--- "Instance, in order: transport=, inventory=, extra=, items=, trucks="
+-- the five lines that an instance begins with
 unfoldable pub headLines : Limits → Reader HeadNumbers
 unfolding onward numberLine
 headLines m = do

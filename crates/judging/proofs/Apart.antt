@@ -8,8 +8,8 @@ use Rattle.meaning.specs.declared.Place.{Place}
 use Rattle.meaning.specs.Lists.{any, filter, dedup, onlyIf, between, In}
 use Rattle.meaning.specs.Places.{place}
 use Rattle.meaning.specs.Model.{Instance, Truck, Stack, truckNumbered, number, x}
-use Rattle.meaning.specs.Measures.{UsedTruck, usedBy, sameUsed, usedTrucks, stacksOn, another, departures, stacksAt, supplierOrder}
-use Rattle.meaning.specs.Rules.{pairPlaces, stackPlaces, truckPlaces, departurePlaces, counts, braced, braces, noAmount}
+use Rattle.meaning.specs.Measures.{UsedTruck, usedBy, sameUsed, usedTrucks, stacksOn, another, departures, stacksAtDeparture, supplierOrder}
+use Rattle.meaning.specs.Rules.{pairPlaces, stackPlaces, truckPlaces, departurePlaces, counts, braced, bracedBy, noAmount}
 use Rattle.meaning.proofs.Lists.{any-none, filter-none, any-append, filter-append, dedup-append, same-turned, in-map, flatMap-none, flatMap-append, flatMap-agree}
 use Rattle.meaning.proofs.RuleKinds.{used-reads}
 use Rattle.meaning.proofs.Levers.{in-used}
@@ -52,20 +52,17 @@ module _ (i : Instance) (l l′ : List Stack) (apart : Apart l l′) where
     pairs-apart = in-parts _ _ _ l l′ first-pairs second-pairs
 
   -- ---- 24: who braces a stack is on its used truck
-  abbrev bracedBy : Stack → Stack → Bool
-  bracedBy s r = another s r && braces i s r
-
-  no-brace : (s r : Stack) → sameUsed (usedBy s) (usedBy r) ≡ false → bracedBy s r ≡ false
+  no-brace : (s r : Stack) → sameUsed (usedBy s) (usedBy r) ≡ false → bracedBy i s r ≡ false
   no-brace s r e = rw e refl
 
   first-braced : (s : Stack) → In s l → braced i (l ++ l′) s ≡ braced i l s
   first-braced s m =
       ap (λ b. eqb (x s) 0 || b)
-      (any-append (bracedBy s) l l′ ∙ rw (any-none (bracedBy s) l′ (λ r n. no-brace s r (apart s r m n))) (or-false (any (bracedBy s) l)))
+      (any-append (bracedBy i s) l l′ ∙ rw (any-none (bracedBy i s) l′ (λ r n. no-brace s r (apart s r m n))) (or-false (any (bracedBy i s) l)))
 
   second-braced : (r : Stack) → In r l′ → braced i (l ++ l′) r ≡ braced i l′ r
   second-braced r n =
-      ap (λ b. eqb (x r) 0 || b) (any-append (bracedBy r) l l′ ∙ rw (any-none (bracedBy r) l (λ s m. no-brace r s (turned r s n m))) refl)
+      ap (λ b. eqb (x r) 0 || b) (any-append (bracedBy i r) l l′ ∙ rw (any-none (bracedBy i r) l (λ s m. no-brace r s (turned r s n m))) refl)
 
   unbraced-apart : stackPlaces braced noAmount i (l ++ l′) ≡ stackPlaces braced noAmount i l ++ stackPlaces braced noAmount i l′
   unfolding stackPlaces
@@ -103,7 +100,7 @@ module _ (i : Instance) (l l′ : List Stack) (apart : Apart l l′) where
       (λ u n. ap (λ (on : List Stack). onlyIf (not (kept i (truckNumbered i (u .truck)) on)) (place (u .truck) (u .copy) 0)) (second-on u n)))
 
   departures-apart : (kept : Instance → Truck → List Stack → Bool) → departurePlaces kept i (l ++ l′) ≡ departurePlaces kept i l ++ departurePlaces kept i l′
-  unfolding departurePlaces stacksAt
+  unfolding departurePlaces stacksAtDeparture
   departures-apart kept =
       rw used-apart (in-parts _ _ _ (usedTrucks l) (usedTrucks l′) (λ u m. ap (places u) (first-on u m)) (λ u n. ap (places u) (second-on u n)))
     where

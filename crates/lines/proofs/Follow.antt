@@ -6,7 +6,7 @@ use native.Mathlib.Omega.{arith}
 use lib.ListN.{length, drop}
 use Rattle.meaning.specs.Text.{Form}
 use Rattle.meaning.specs.Reader.{Outcome, found, wrongForm, outOfRange, Reader, give, onward, _>>=_, line, times}
-use Rattle.meaning.specs.InRange.{Meets}
+use Rattle.meaning.specs.Meets.{Meets}
 use Rattle.meaning.proofs.Outcomes.{Leaves, leaves-onward, leaves-line}
 use Rattle.lines.specs.declared.Progress.{Progress}
 use Rattle.lines.specs.declared.Progress.the-variants.{Next, WrongForm, OutOfRange}

@@ -5,7 +5,7 @@ use Prim.Native.Nat.{ℕ, suc, _<_}
 use native.Mathlib.Omega.{arith}
 use lib.ListN.{length}
 use Rattle.meaning.specs.Lists.{Every, all, between, distinct}
-use Rattle.meaning.specs.Files.{Range, rowLine, identifiersLine}
+use Rattle.meaning.specs.Files.{Range, fieldsLine, identifiersLine}
 use Rattle.meaning.proofs.Tests.{and-reads}
 use Rattle.meaning.proofs.Fields.{ranges-below, range-below}
 use Rattle.lines.specs.Progress.{Key, RefusesLargest, ranges}
@@ -20,8 +20,8 @@ high-ends [] highs h = tt
 high-ends (low ∷ lows) [] h = tt
 high-ends (low ∷ lows) (high ∷ highs) h = (h .0, high-ends lows highs (h .1))
 
-pub refuses-row : (k : Key) (lows highs : List ℕ) → Every (λ h. h < 4294967295) highs → RefusesLargest (rowLine k (ranges lows highs))
-refuses-row k lows highs h ns l e = ranges-below _ (ranges lows highs) ns (high-ends lows highs h) l e
+pub refuses-fields : (k : Key) (lows highs : List ℕ) → Every (λ h. h < 4294967295) highs → RefusesLargest (fieldsLine k (ranges lows highs))
+refuses-fields k lows highs h ns l e = ranges-below _ (ranges lows highs) ns (high-ends lows highs h) l e
 
 pub length-ranges : (lows highs : List ℕ) → length lows ≡ length highs → length (ranges lows highs) ≡ length highs
 unfolding ranges

@@ -5,7 +5,7 @@ use Prim.Native.Nat.{ℕ, _≤_}
 use native.Mathlib.Omega.{arith}
 use lib.ListN.{getD, List·getD-eq-default}
 use Rattle.meaning.specs.Reader.{give, line}
-use Rattle.meaning.specs.Files.{_to_, rowLine, numberLine}
+use Rattle.meaning.specs.Files.{_to_, fieldsLine, numberLine}
 use Rattle.meaning.proofs.Fields.{field-within}
 use Rattle.lines.specs.declared.Progress.{Progress}
 use Rattle.lines.specs.declared.Progress.the-variants.{Next, WrongForm, OutOfRange}
@@ -19,12 +19,12 @@ going-entries (WrongForm n) h = h refl
 going-entries (OutOfRange n) h = h refl
 
 module _ (file out : List ℕ) (k : Key) (low high : ℕ) (p r : Progress)
-    (read : ReadEntries file (line (rowLine k (low to high ∷ []))) (λ ns. ns) p r out) where
+    (read : ReadEntries file (line (fieldsLine k (low to high ∷ []))) (λ ns. ns) p r out) where
   -- any number that is the line's where it was not refused
   says : (n : ℕ) → (Going r → n ≡ getD (read .into .value) 0 0) → reached file n r ≡ resumed file p (numberLine k (low to high))
   unfolding numberLine
   says n h =
-      let f = rowLine k (low to high ∷ []) in
+      let f = fieldsLine k (low to high ∷ []) in
       same-reached file n (getD (read .into .value) 0 0) r h
       ∙ sym
       (past-reader file p r (read .into .value) (line f) (λ ns. give (getD ns 0 0)) (read .into .says) ∙ given-reached file (getD (read .into .value) 0 0) r)
@@ -39,5 +39,5 @@ module _ (file out : List ℕ) (k : Key) (low high : ℕ) (p r : Progress)
 
   pub number-most : Going r → getD out 0 0 ≤ high
   number-most g =
-      let m = read-meets file (read .into .value) (rowLine k (low to high ∷ [])) p r (read .into .says) g in
+      let m = read-meets file (read .into .value) (fieldsLine k (low to high ∷ [])) p r (read .into .says) g in
       rw (read .into .holds g) (field-within (low to high ∷ []) (read .into .value) 0 (m .fits) (omega arith) (omega (arith, m .least)) .1)

@@ -7,7 +7,7 @@ ghost use lib.ListN.{length};
 ghost use Rattle.meaning.specs.Lists.{Every, all, between, distinct, padded};
 ghost use Rattle.meaning.specs.Text.{Form, bytes};
 ghost use Rattle.meaning.specs.Reader.{line};
-ghost use Rattle.meaning.specs.Files.{allWithin, rowLine, identifiersLine, numberLine, _to_};
+ghost use Rattle.meaning.specs.Files.{allWithin, fieldsLine, identifiersLine, numberLine, _to_};
 ghost use Rattle.meaning.specs.Table.{countedWords, largestWord};
 ghost use Rattle.lines.specs.Progress.{Key, reached, resumed, entriesOf, Sound, unjudged, judgedAs};
 ghost use Rattle.lines.specs.Progress.{endedAs, Unpassed, Stored, RefusesLargest, ranges, ReadEntries};
@@ -144,7 +144,7 @@ pub fn at_end(file: &[u8], p: Progress) -> Progress
 }
 
 // A line of a fixed number of entries, each with a range of its own.
-pub fn row_line(
+pub fn fields_line(
     file: &[u8],
     p: Progress,
     key: &[u8],
@@ -155,7 +155,7 @@ pub fn row_line(
     requires { ⌜ Sound (now file) p × (length (now lows) ≡ length (now out)) × (length (now highs) ≡ length (now out))
         × Every (λ h. h < largestWord) (now highs) ⌝ }
     ensures { λ r. ⌜ ((k : Key) → bytes k ≡ now (key .entry)
-        → ReadEntries (now (file .entry)) (line (rowLine k (ranges (now (lows .entry)) (now (highs .entry))))) (λ ns. ns) p r
+        → ReadEntries (now (file .entry)) (line (fieldsLine k (ranges (now (lows .entry)) (now (highs .entry))))) (λ ns. ns) p r
         (now (out .exit))) ⌝ }
 {
     let stored = stored_line(file, p, key, out.len(), out);
@@ -206,7 +206,7 @@ pub fn number_line(file: &[u8], p: Progress, key: &[u8], low: u32, high: u32) ->
     let lows = [low];
     let highs = [high];
     let mut out: [u32; 1] = [0];
-    let progress = row_line(file, p, key, &lows, &highs, &mut out);
+    let progress = fields_line(file, p, key, &lows, &highs, &mut out);
     if entries(progress) == 0 {
         return NumberAnswer { progress, value: 0 };
     }

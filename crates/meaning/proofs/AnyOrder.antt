@@ -14,8 +14,8 @@ use Rattle.meaning.specs.Lists.{any, all, listed, between, In, Every}
 use Rattle.meaning.specs.Text.{lineNumbers}
 use Rattle.meaning.specs.Reader.{Outcome, found, wrongForm, outOfRange, onward, line}
 use Rattle.meaning.specs.Model.{Instance, Stack, number, stackNumber}
-use Rattle.meaning.specs.Files.{Range, allWithin, rowLine, numberLine, stackRanges, stackLine, loadLine, stackLines, planLines, _to_}
-use Rattle.meaning.specs.InRange.{Meets, StacksInRange}
+use Rattle.meaning.specs.Files.{Range, allWithin, fieldsLine, numberLine, stackRanges, stackLine, loadLine, stackLines, planLines, _to_}
+use Rattle.meaning.specs.Meets.{Meets, StacksMeet}
 use Rattle.meaning.specs.Check.{readable, readFiles, answerTo, answer}
 use Rattle.meaning.specs.Reorder.{LinePair, ended, pairBytes, planOf, OneLine, OneLineEach, Reordered}
 use Rattle.meaning.specs.Print.{printedLine, printedStack, printedPlan}
@@ -31,61 +31,61 @@ use Rattle.meaning.proofs.Printed.{read-printed}
 use Rattle.meaning.proofs.VerdictOrder.{verdict-perm}
 
 -- ---- ranges of stacks in another order
--- a stack's number is not taken before it
-free : (trucks : ℕ) (taken ns : List ℕ) → Meets (stackLine trucks taken) ns → In (stackNumber ns) taken → ⊥
-free trucks taken ns h m =
-    let k = and-reads (allWithin (stackRanges trucks) ns) (not (listed (stackNumber ns) taken)) .0 (h .fits) in
-    not-reads (listed (stackNumber ns) taken) .0 (k .1) (listed-reads (stackNumber ns) taken .1 m)
+-- a stack's number is not earlier before it
+free : (trucks : ℕ) (earlier ns : List ℕ) → Meets (stackLine trucks earlier) ns → In (stackNumber ns) earlier → ⊥
+free trucks earlier ns h m =
+    let k = and-reads (allWithin (stackRanges trucks) ns) (not (listed (stackNumber ns) earlier)) .0 (h .fits) in
+    not-reads (listed (stackNumber ns) earlier) .0 (k .1) (listed-reads (stackNumber ns) earlier .1 m)
 
 -- which is all that the stacks before it decide
-meets-stack : (trucks : ℕ) (taken taken′ ns : List ℕ) → Meets (stackLine trucks taken) ns → (In (stackNumber ns) taken′ → ⊥) → Meets (stackLine trucks taken′) ns
-meets-stack trucks taken taken′ ns h f =
-    let k = and-reads (allWithin (stackRanges trucks) ns) (not (listed (stackNumber ns) taken)) .0 (h .fits) in
-    let new = not-reads (listed (stackNumber ns) taken′) .1 (λ e. f (listed-reads (stackNumber ns) taken′ .0 e)) in
-    record { least = h .least; most = h .most; fits = and-reads (allWithin (stackRanges trucks) ns) (not (listed (stackNumber ns) taken′)) .1 (k .0, new) }
+meets-stack : (trucks : ℕ) (earlier earlier′ ns : List ℕ) → Meets (stackLine trucks earlier) ns → (In (stackNumber ns) earlier′ → ⊥) → Meets (stackLine trucks earlier′) ns
+meets-stack trucks earlier earlier′ ns h f =
+    let k = and-reads (allWithin (stackRanges trucks) ns) (not (listed (stackNumber ns) earlier)) .0 (h .fits) in
+    let new = not-reads (listed (stackNumber ns) earlier′) .1 (λ e. f (listed-reads (stackNumber ns) earlier′ .0 e)) in
+    record { least = h .least; most = h .most; fits = and-reads (allWithin (stackRanges trucks) ns) (not (listed (stackNumber ns) earlier′)) .1 (k .0, new) }
 
 -- likewise of a load: there is room for it
-room : (most items held : ℕ) (ns : List ℕ) → Meets (loadLine most items held) ns → held + length ns ≤ most
-room most items held ns h = le-reads _ _ .0 (and-reads (all (between 1 items) ns) (leb (held + length ns) most) .0 (h .fits) .1)
+room : (most items loaded : ℕ) (ns : List ℕ) → Meets (loadLine most items loaded) ns → loaded + length ns ≤ most
+room most items loaded ns h = le-reads _ _ .0 (and-reads (all (between 1 items) ns) (leb (loaded + length ns) most) .0 (h .fits) .1)
 
-meets-load : (most items held held′ : ℕ) (ns : List ℕ) → Meets (loadLine most items held) ns → held′ + length ns ≤ most → Meets (loadLine most items held′) ns
-meets-load most items held held′ ns h k =
-    let e = and-reads (all (between 1 items) ns) (leb (held + length ns) most) .0 (h .fits) .0 in
-    record { least = h .least; most = h .most; fits = and-reads (all (between 1 items) ns) (leb (held′ + length ns) most) .1 (e, le-reads _ _ .1 k) }
+meets-load : (most items loaded loaded′ : ℕ) (ns : List ℕ) → Meets (loadLine most items loaded) ns → loaded′ + length ns ≤ most → Meets (loadLine most items loaded′) ns
+meets-load most items loaded loaded′ ns h k =
+    let e = and-reads (all (between 1 items) ns) (leb (loaded + length ns) most) .0 (h .fits) .0 in
+    record { least = h .least; most = h .most; fits = and-reads (all (between 1 items) ns) (leb (loaded′ + length ns) most) .1 (e, le-reads _ _ .1 k) }
 
 module _ (most items trucks : ℕ) where
   abbrev Stacks : List ℕ → ℕ → List Stack → Type 0
-  Stacks = StacksInRange most items trucks
+  Stacks = StacksMeet most items trucks
 
-  -- stacks stay in range where fewer numbers are taken
-  fewer-taken : (taken taken′ : List ℕ) → ((n : ℕ) → In n taken′ → In n taken) → (held : ℕ) (p : List Stack) → Stacks taken held p → Stacks taken′ held p
-  fewer-taken taken taken′ f held [] h = tt
-  fewer-taken taken taken′ f held (s ∷ p) h = (
-    meets-stack trucks taken taken′ (s .fields) (h .0) (λ m. free trucks taken (s .fields) (h .0) (f (number s) m)),
+  -- stacks stay in range where fewer numbers are earlier
+  fewer-earlier : (earlier earlier′ : List ℕ) → ((n : ℕ) → In n earlier′ → In n earlier) → (loaded : ℕ) (p : List Stack) → Stacks earlier loaded p → Stacks earlier′ loaded p
+  fewer-earlier earlier earlier′ f loaded [] h = tt
+  fewer-earlier earlier earlier′ f loaded (s ∷ p) h = (
+    meets-stack trucks earlier earlier′ (s .fields) (h .0) (λ m. free trucks earlier (s .fields) (h .0) (f (number s) m)),
     h .1,
-    fewer-taken (number s ∷ taken) (number s ∷ taken′) (λ n. ⊎-elim (λ e. inl e) (λ m. inr (f n m))) (held + length (s .load)) p (h .2),
+    fewer-earlier (number s ∷ earlier) (number s ∷ earlier′) (λ n. ⊎-elim (λ e. inl e) (λ m. inr (f n m))) (loaded + length (s .load)) p (h .2),
   )
 
-  exchanged : (a b : Stack) (p : List Stack) (taken : List ℕ) (held : ℕ) → Stacks taken held (a ∷ b ∷ p) → Stacks taken held (b ∷ a ∷ p)
-  exchanged a b p taken held h =
-      let full = room most items (held + length (a .load)) (b .load) (h .2 .1) in
-      let other = free trucks (number a ∷ taken) (b .fields) (h .2 .0) in
-      let sums : held + length (a .load) + length (b .load) ≡ held + length (b .load) + length (a .load) = omega arith in (
-        meets-stack trucks (number a ∷ taken) taken (b .fields) (h .2 .0) (λ m. other (inr m)),
-        meets-load most items (held + length (a .load)) held (b .load) (h .2 .1) (omega arith),
+  exchanged : (a b : Stack) (p : List Stack) (earlier : List ℕ) (loaded : ℕ) → Stacks earlier loaded (a ∷ b ∷ p) → Stacks earlier loaded (b ∷ a ∷ p)
+  exchanged a b p earlier loaded h =
+      let full = room most items (loaded + length (a .load)) (b .load) (h .2 .1) in
+      let other = free trucks (number a ∷ earlier) (b .fields) (h .2 .0) in
+      let sums : loaded + length (a .load) + length (b .load) ≡ loaded + length (b .load) + length (a .load) = omega arith in (
+        meets-stack trucks (number a ∷ earlier) earlier (b .fields) (h .2 .0) (λ m. other (inr m)),
+        meets-load most items (loaded + length (a .load)) loaded (b .load) (h .2 .1) (omega arith),
         (
-          meets-stack trucks taken (number b ∷ taken) (a .fields) (h .0) (⊎-elim (λ e. other (inl (sym e))) (free trucks taken (a .fields) (h .0))),
-          meets-load most items held (held + length (b .load)) (a .load) (h .1) (omega arith),
-          fewer-taken (number b ∷ number a ∷ taken) (number a ∷ number b ∷ taken) (perm-same (List·Permᴰ·swap {l = taken} refl refl) .1)
-              (held + length (b .load) + length (a .load)) p (subst (λ n. Stacks (number b ∷ number a ∷ taken) n p) sums (h .2 .2)),
+          meets-stack trucks earlier (number b ∷ earlier) (a .fields) (h .0) (⊎-elim (λ e. other (inl (sym e))) (free trucks earlier (a .fields) (h .0))),
+          meets-load most items loaded (loaded + length (b .load)) (a .load) (h .1) (omega arith),
+          fewer-earlier (number b ∷ number a ∷ earlier) (number a ∷ number b ∷ earlier) (perm-same (List·Permᴰ·swap {l = earlier} refl refl) .1)
+              (loaded + length (b .load) + length (a .load)) p (subst (λ n. Stacks (number b ∷ number a ∷ earlier) n p) sums (h .2 .2)),
         ),
       )
 
-  in-range-perm : (p p′ : List Stack) → List·Permᴰ p p′ → (taken : List ℕ) (held : ℕ) → Stacks taken held p → Stacks taken held p′
+  in-range-perm : (p p′ : List Stack) → List·Permᴰ p p′ → (earlier : List ℕ) (loaded : ℕ) → Stacks earlier loaded p → Stacks earlier loaded p′
   in-range-perm p p′ =
-      perm-induct (λ p p′. (taken : List ℕ) (held : ℕ) → Stacks taken held p → Stacks taken held p′) (λ taken held h. h)
-      (λ s p p′ k rec taken held h. (h .0, h .1, rec (number s ∷ taken) (held + length (s .load)) (h .2)))
-      exchanged (λ p q r k k′ taken held h. k′ taken held (k taken held h))
+      perm-induct (λ p p′. (earlier : List ℕ) (loaded : ℕ) → Stacks earlier loaded p → Stacks earlier loaded p′) (λ earlier loaded h. h)
+      (λ s p p′ k rec earlier loaded h. (h .0, h .1, rec (number s ∷ earlier) (loaded + length (s .load)) (h .2)))
+      exchanged (λ p q r k k′ earlier loaded h. k′ earlier loaded (k earlier loaded h))
 
 -- ---- what two lines say
 abbrev orNone : Option (List ℕ) → List ℕ
@@ -115,28 +115,28 @@ no-pair b bs e = omega (arith, simp length-append at (ap length e))
 module _ (most items trucks : ℕ) where
   -- where no bytes are left, each pair was read as its stack
   abbrev AllRead : ℕ → List ℕ → ℕ → List LinePair → List Stack → List ℕ → Type 0
-  AllRead count taken held bs p rest =
-      rest ≡ [] → (count ≡ length bs) × (p ≡ map stackOf bs) × Every Speaks bs × StacksInRange most items trucks taken held p
+  AllRead count earlier loaded bs p rest =
+      rest ≡ [] → (count ≡ length bs) × (p ≡ map stackOf bs) × Every Speaks bs × StacksMeet most items trucks earlier loaded p
 
-  leaves-stacks : (count : ℕ) (taken : List ℕ) (held n : ℕ) (bs : List LinePair) (text : List ℕ) → Every OneLineEach bs → text ≡ flatMap pairBytes bs
-      → Leaves (AllRead count taken held bs) (stackLines most items trucks count taken held n text)
+  leaves-stacks : (count : ℕ) (earlier : List ℕ) (loaded n : ℕ) (bs : List LinePair) (text : List ℕ) → Every OneLineEach bs → text ≡ flatMap pairBytes bs
+      → Leaves (AllRead count earlier loaded bs) (stackLines most items trucks count earlier loaded n text)
   unfolding stackLines flatMap
-  leaves-stacks zero taken held n [] text w e = λ z. (refl, refl, tt, tt)
-  leaves-stacks zero taken held n (b ∷ bs) text w e = λ z. absurd (no-pair b bs (sym e ∙ z))
-  leaves-stacks (suc count) taken held n [] text w e = rw e tt
-  leaves-stacks (suc count) taken held n (b ∷ bs) text w e =
+  leaves-stacks zero earlier loaded n [] text w e = λ z. (refl, refl, tt, tt)
+  leaves-stacks zero earlier loaded n (b ∷ bs) text w e = λ z. absurd (no-pair b bs (sym e ∙ z))
+  leaves-stacks (suc count) earlier loaded n [] text w e = rw e tt
+  leaves-stacks (suc count) earlier loaded n (b ∷ bs) text w e =
       let after = flatMap pairBytes bs in
-      let form = stackLine trucks taken in
-      let form′ = loadLine most items held in
+      let form = stackLine trucks earlier in
+      let form′ = loadLine most items loaded in
       let joined : text ≡ ended (b .stackLine) ++ (ended (b .loadLine) ++ after) = e ∙ append-assoc (ended (b .stackLine)) (ended (b .loadLine)) after in
-      leaves-onward (OfLine form (b .stackLine) (ended (b .loadLine) ++ after)) (AllRead (suc count) taken held (b ∷ bs)) (line form n text) _
+      leaves-onward (OfLine form (b .stackLine) (ended (b .loadLine) ++ after)) (AllRead (suc count) earlier loaded (b ∷ bs)) (line form n text) _
       (leaves-ended form (b .stackLine) (ended (b .loadLine) ++ after) text n (w .0 .stackLine) joined) (λ fields n₁ left k.
-      leaves-onward (OfLine form′ (b .loadLine) after) (AllRead (suc count) taken held (b ∷ bs)) (line form′ n₁ left) _
+      leaves-onward (OfLine form′ (b .loadLine) after) (AllRead (suc count) earlier loaded (b ∷ bs)) (line form′ n₁ left) _
       (leaves-ended form′ (b .loadLine) after left n₁ (w .0 .loadLine) (k .2)) (λ load n₂ left′ k′.
-      let taken′ = stackNumber fields ∷ taken in
-      let held′ = held + length load in
-      leaves-onward (AllRead count taken′ held′ bs) (AllRead (suc count) taken held (b ∷ bs)) (stackLines most items trucks count taken′ held′ n₂ left′) _
-      (leaves-stacks count taken′ held′ n₂ bs left′ (w .1) (k′ .2)) (λ p n₃ rest rec z.
+      let earlier′ = stackNumber fields ∷ earlier in
+      let loaded′ = loaded + length load in
+      leaves-onward (AllRead count earlier′ loaded′ bs) (AllRead (suc count) earlier loaded (b ∷ bs)) (stackLines most items trucks count earlier′ loaded′ n₂ left′) _
+      (leaves-stacks count earlier′ loaded′ n₂ bs left′ (w .1) (k′ .2)) (λ p n₃ rest rec z.
       let t = rec z in
       let s : Stack = record { fields = fields; load = load } in
       let said : Says b s = record { fields = k .0; load = k′ .0 } in
@@ -144,19 +144,19 @@ module _ (most items trucks : ℕ) where
       (ap suc (t .0), ap₂ (λ (a : Stack) (r : List Stack). a ∷ r) q (t .1), (subst (Says b) q said, t .2), (k .1, k′ .1, t .3)))))
 
   -- and back: pairs whose stacks are in range are read as those stacks
-  finds-stacks : (taken : List ℕ) (held n : ℕ) (bs : List LinePair) → Every OneLineEach bs → Every Speaks bs
-      → StacksInRange most items trucks taken held (map stackOf bs)
-      → (last : ℕ) × (stackLines most items trucks (length bs) taken held n (flatMap pairBytes bs) ≡ found (map stackOf bs) last [])
+  finds-stacks : (earlier : List ℕ) (loaded n : ℕ) (bs : List LinePair) → Every OneLineEach bs → Every Speaks bs
+      → StacksMeet most items trucks earlier loaded (map stackOf bs)
+      → (last : ℕ) × (stackLines most items trucks (length bs) earlier loaded n (flatMap pairBytes bs) ≡ found (map stackOf bs) last [])
   unfolding stackLines flatMap onward
-  finds-stacks taken held n [] w d h = (n, refl)
-  finds-stacks taken held n (b ∷ bs) w d h =
+  finds-stacks earlier loaded n [] w d h = (n, refl)
+  finds-stacks earlier loaded n (b ∷ bs) w d h =
       let after = flatMap pairBytes bs in
-      let t = finds-stacks (number (stackOf b) ∷ taken) (held + length (stackOf b .load)) (suc (suc n)) bs (w .1) (d .1) (h .2) in (
+      let t = finds-stacks (number (stackOf b) ∷ earlier) (loaded + length (stackOf b .load)) (suc (suc n)) bs (w .1) (d .1) (h .2) in (
         t .0,
         rw (
           append-assoc (ended (b .stackLine)) (ended (b .loadLine)) after,
-          finds-ended (stackLine trucks taken) (b .stackLine) (ended (b .loadLine) ++ after) n (stackOf b .fields) (w .0 .stackLine) (d .0 .fields) (h .0),
-          finds-ended (loadLine most items held) (b .loadLine) after (suc n) (stackOf b .load) (w .0 .loadLine) (d .0 .load) (h .1),
+          finds-ended (stackLine trucks earlier) (b .stackLine) (ended (b .loadLine) ++ after) n (stackOf b .fields) (w .0 .stackLine) (d .0 .fields) (h .0),
+          finds-ended (loadLine most items loaded) (b .loadLine) after (suc n) (stackOf b .load) (w .0 .loadLine) (d .0 .load) (h .1),
           t .1,
         ),
       )
@@ -167,7 +167,7 @@ number-alike : (key : String) (r : Range) (l rest : List ℕ) (n : ℕ) → OneL
     → Leaves (λ c left. (left ≡ rest) × ((rest′ : List ℕ) → numberLine key r n (ended l ++ rest′) ≡ found c (suc n) rest′)) (numberLine key r n (ended l ++ rest))
 unfolding numberLine onward
 number-alike key r l rest n h =
-    let form = rowLine key (r ∷ []) in
+    let form = fieldsLine key (r ∷ []) in
     leaves-onward (OfLine form l rest) _ (line form n (ended l ++ rest)) _ (leaves-ended form l rest (ended l ++ rest) n h refl) (λ ns n₁ left k.
     (k .2, λ rest′. rw (finds-ended form l rest′ n ns h (k .0) (k .1))))
 

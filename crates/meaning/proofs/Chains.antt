@@ -11,7 +11,7 @@ use lib.Dec.{leb, eqb}
 use Rattle.meaning.specs.Lists.{any, In}
 use Rattle.meaning.specs.Model.{Instance, Stack, number, x, y}
 use Rattle.meaning.specs.Measures.{another, xe, ye}
-use Rattle.meaning.specs.Rules.{stackPlaces, braces, braced, noAmount}
+use Rattle.meaning.specs.Rules.{stackPlaces, inContact, bracedBy, braced, noAmount}
 use Rattle.meaning.specs.Feasible.{SameTruck, Contact, Chain}
 use Rattle.meaning.proofs.Tests.{and-reads, or-reads}
 use Rattle.meaning.proofs.Lists.{any-reads}
@@ -20,7 +20,7 @@ use Rattle.meaning.proofs.Sound.{Sound}
 use Rattle.meaning.proofs.Extents.{Ends, sound-ends}
 
 -- the rule's test is a contact
-contact-reads : (i : Instance) (s r : Stack) → Ends i s → Ends i r → (braces i s r ≡ true) ↔ Contact i s r
+contact-reads : (i : Instance) (s r : Stack) → Ends i s → Ends i r → (inContact i s r ≡ true) ↔ Contact i s r
 contact-reads i s r a b = (
   (λ e.
       let h = and-reads (eqb (xe i r) (x s) && leb (y s) (ye i r)) (leb (y r) (ye i s)) .0 e in
@@ -59,15 +59,15 @@ module _ (i : Instance) (p : List Stack) (sound : Sound i p) where
   ends s m = sound-ends i s (sound .stacks s m)
 
   abbrev someBraces : Stack → Bool
-  someBraces s = any (λ (r : Stack). another s r && braces i s r) p
+  someBraces s = any (bracedBy i s) p
 
   braced-reads : (s : Stack) → In s p → (braced i p s ≡ true) ↔ ((x s ≡ 0) ⊎ HeldBy s)
   braced-reads s m = (
     (λ e.
         ⊎-elim (λ k. inl (eqb-true (x s) 0 k))
         (λ k.
-        let w = any-reads (λ (r : Stack). another s r && braces i s r) p .0 k in
-        let h = and-reads (another s (w .0)) (braces i s (w .0)) .0 (w .2) in
+        let w = any-reads (bracedBy i s) p .0 k in
+        let h = and-reads (another s (w .0)) (inContact i s (w .0)) .0 (w .2) in
         let o = another-reads s (w .0) .0 (h .0) in
         inr (record { by = w .0; there = w .1; together = o .0; other = o .1; contact = contact-reads i s (w .0) (ends s m) (ends (w .0) (w .1)) .0 (h .1) }))
         (or-reads (eqb (x s) 0) (someBraces s) .0 e)),
@@ -75,10 +75,10 @@ module _ (i : Instance) (p : List Stack) (sound : Sound i p) where
         or-reads (eqb (x s) 0) (someBraces s) .1
         (⊎-elim (λ k. inl (eq-eqb (x s) 0 k))
         (λ b.
-        inr (any-reads (λ (r : Stack). another s r && braces i s r) p .1 (
+        inr (any-reads (bracedBy i s) p .1 (
           b .by,
           b .there,
-          and-reads (another s (b .by)) (braces i s (b .by)) .1
+          and-reads (another s (b .by)) (inContact i s (b .by)) .1
               (another-reads s (b .by) .1 (b .together, b .other), contact-reads i s (b .by) (ends s m) (ends (b .by) (b .there)) .1 (b .contact)),
         ))) h)),
   )

@@ -10,7 +10,7 @@ use Rattle.meaning.specs.declared.Limits.{Limits}
 use Rattle.meaning.specs.Lists.{Every, chunks, padded}
 use Rattle.meaning.specs.Limits.{itemsAt, trucksAt, stacksAt, loadsAt, named}
 use Rattle.meaning.specs.Model.{Instance, Truck, Stack, Item}
-use Rattle.meaning.specs.Table.{headWords, countedWords, truckWords, stackWords, loadEntries, words, cutRows, truckIn, instanceIn, stackIn, stacksIn}
+use Rattle.meaning.specs.Table.{headWords, countedWords, truckWords, stackWords, loadEntries, words, cutLists, truckIn, instanceIn, stackIn, stacksIn}
 use Rattle.meaning.specs.InRange.{TruckFits, Fits}
 use Rattle.meaning.specs.Claims.{Decodes}
 use Rattle.meaning.proofs.Lists.{every-map}
@@ -95,8 +95,8 @@ module _ {A : Type 0} (w : ℕ) (f : A → List ℕ) where
 -- ---- a truck
 -- the docks, each list cut from its row
 cut-docks : (n : ℕ) (ds : List (List ℕ)) (rest : List ℕ) → length ds ≤ n → Every (λ (d : List ℕ). length d ≤ 8) ds
-    → cutRows (map length ds) (chunks 8 n (flatMap (padded 8) ds ++ rest)) ≡ ds
-unfolding cutRows chunks flatMap
+    → cutLists (map length ds) (chunks 8 n (flatMap (padded 8) ds ++ rest)) ≡ ds
+unfolding cutLists chunks flatMap
 cut-docks n [] rest h k = refl
 cut-docks zero (d ∷ ds) rest h k = absurd (omega arith)
 cut-docks (suc n) (d ∷ ds) rest h k =
@@ -158,8 +158,8 @@ module _ (t : Truck) (h : TruckFits t) where
       let counts = map length (t .docks) in
       let fields : take 20 ws ≡ t .fields = take-at (t .fields) _ 20 (h .fields) in
       let counted : getD ws 53 0 ≡ length counts = word-at from53 ∙ sym (h .dockLines) ∙ sym (length-map (t .docks) length) in
-      let docks : cutRows (take (getD ws 53 0) (drop 62 ws)) (chunks 8 8 (drop 70 ws)) ≡ t .docks =
-      ap₂ cutRows (take-padded 8 counts (dockWords t) _ counted from62)
+      let docks : cutLists (take (getD ws 53 0) (drop 62 ws)) (chunks 8 8 (drop 70 ws)) ≡ t .docks =
+      ap₂ cutLists (take-padded 8 counts (dockWords t) _ counted from62)
       (ap (chunks 8 8) (drop-padded 64 (flatMap (padded 8) (t .docks)) (plantDockWords t) from70))
       ∙ cut-docks 8 (t .docks) _ few-docks (h .docks)
       in
@@ -177,17 +177,17 @@ trucks-decode (t ∷ ts) h = ap₂ {C = List Truck} (λ a r. a ∷ r) (truck-dec
 
 -- ---- stacks
 -- the words of one stack, with `before` load entries before its own
-abbrev pub stackRow : ℕ → Stack → List ℕ
-stackRow before s = s .fields ++ (before ∷ length (s .load) ∷ [])
+abbrev pub oneStackWords : ℕ → Stack → List ℕ
+oneStackWords before s = s .fields ++ (before ∷ length (s .load) ∷ [])
 
-pub length-stackRow : (before : ℕ) (s : Stack) → length (s .fields) ≡ 6 → length (stackRow before s) ≡ 8
-length-stackRow before s h = simp length-append (omega arith)
+pub length-oneStackWords : (before : ℕ) (s : Stack) → length (s .fields) ≡ 6 → length (oneStackWords before s) ≡ 8
+length-oneStackWords before s h = simp length-append (omega arith)
 
 -- a stack whose load entries have the words `before` in front and `after` behind
-stack-decodes : (s : Stack) (before after : List ℕ) → length (s .fields) ≡ 6 → stackIn (before ++ (s .load ++ after)) (stackRow (length before) s) ≡ s
+stack-decodes : (s : Stack) (before after : List ℕ) → length (s .fields) ≡ 6 → stackIn (before ++ (s .load ++ after)) (oneStackWords (length before) s) ≡ s
 unfolding stackIn
 stack-decodes s before after h =
-    let row = stackRow (length before) s in
+    let row = oneStackWords (length before) s in
     let from6 : From row 6 (length before ∷ length (s .load) ∷ []) = past 6 (s .fields) _ (start row) h in
     let from7 : From row 7 (length (s .load) ∷ []) = past 1 (length before ∷ []) _ from6 refl in
     let fields : take 6 row ≡ s .fields = take-at (s .fields) _ 6 h in
@@ -202,9 +202,9 @@ stacks-decode : (p : List Stack) (before after rest : List ℕ) → Every (λ (s
 unfolding chunks loadEntries stackWords
 stacks-decode [] before after rest h = refl
 stacks-decode (s ∷ p) before after rest h =
-    let row = stackRow (length before) s in
+    let row = oneStackWords (length before) s in
     let later = stackWords (length before + length (s .load)) p in
-    let e = length-stackRow (length before) s (h .0) in
+    let e = length-oneStackWords (length before) s (h .0) in
     rw (append-assoc (s .load) (loadEntries p) after, append-assoc row later rest, take-at row (later ++ rest) 8 e, drop-at row (later ++ rest) 8 e)
     (ap₂ {C = List Stack} (λ a r. a ∷ r) (stack-decodes s before (loadEntries p ++ after) (h .0))
     (rw (← append-assoc before (s .load) (loadEntries p ++ after), ← length-append before (s .load)) (stacks-decode p (before ++ s .load) after rest (h .1))))
@@ -214,7 +214,7 @@ unfolding stackWords
 length-stackWords before [] h = refl
 length-stackWords before (s ∷ p) h =
     let later = before + length (s .load) in
-    rw (length-append (stackRow before s) (stackWords later p), length-stackRow before s (h .0), length-stackWords later p (h .1)) (omega arith)
+    rw (length-append (oneStackWords before s) (stackWords later p), length-oneStackWords before s (h .0), length-stackWords later p (h .1)) (omega arith)
 
 -- ---- the table: the words of a model, and any words beyond them
 -- its words from each part on
@@ -266,27 +266,27 @@ module _ (m : Limits) (i : Instance) (p : List Stack) (h : Fits m i p) (beyond :
   beyond-begins = past (m .loads) (padded (m .loads) (loadEntries p)) beyond loads-begin (length-padded (m .loads) (loadEntries p) (h .loads))
 
   -- the rows of the trucks, and the words from the stacks on
-  pub truck-rows : chunks 160 (length (i .trucks)) (drop (trucksAt m) (longTable m i p beyond)) ≡ map truckWords (i .trucks)
-  truck-rows = chunks-runs 160 truckWords (m .trucks) (i .trucks) sizes (fromStacks m i p beyond) trucks-begin
+  pub truck-words-at : chunks 160 (length (i .trucks)) (drop (trucksAt m) (longTable m i p beyond)) ≡ map truckWords (i .trucks)
+  truck-words-at = chunks-runs 160 truckWords (m .trucks) (i .trucks) sizes (fromStacks m i p beyond) trucks-begin
 
-  pub stack-rows : drop (stacksAt m) (longTable m i p beyond) ≡ stackWords 0 p ++ behindStacks m i p beyond
-  stack-rows = drop-padded (8 * m .stacks) (stackWords 0 p) (fromLoads m i p beyond) stacks-begin
+  pub stack-words-at : drop (stacksAt m) (longTable m i p beyond) ≡ stackWords 0 p ++ behindStacks m i p beyond
+  stack-words-at = drop-padded (8 * m .stacks) (stackWords 0 p) (fromLoads m i p beyond) stacks-begin
 
-  pub instance-held : instanceIn m (longTable m i p beyond) ≡ i
+  pub instance-decoded : instanceIn m (longTable m i p beyond) ≡ i
   unfolding words headWords instanceIn
-  instance-held =
+  instance-decoded =
       let items : chunks 16 (length (i .items)) (drop itemsAt (longTable m i p beyond)) ≡ i .items =
       chunks-runs 16 _ (m .items) (i .items) (h .items) (fromTrucks m i p beyond) items-begin ∙ map-id (i .items)
       in
       let trucks : map truckIn (chunks 160 (length (i .trucks)) (drop (trucksAt m) (longTable m i p beyond))) ≡ i .trucks =
-      ap (map truckIn) truck-rows ∙ trucks-decode (i .trucks) (h .trucks)
+      ap (map truckIn) truck-words-at ∙ trucks-decode (i .trucks) (h .trucks)
       in
       λ j. record { αT = i .αT; αI = i .αI; αE = i .αE; items = items j; trucks = trucks j }
 
-  pub stacks-held : stacksIn m (longTable m i p beyond) ≡ p
+  pub stacks-decoded : stacksIn m (longTable m i p beyond) ≡ p
   unfolding words headWords stacksIn
-  stacks-held =
-      ap₂ (λ (l r : List ℕ). map (stackIn l) (chunks 8 (length p) r)) (drop-padded (m .loads) (loadEntries p) beyond loads-begin) stack-rows
+  stacks-decoded =
+      ap₂ (λ (l r : List ℕ). map (stackIn l) (chunks 8 (length p) r)) (drop-padded (m .loads) (loadEntries p) beyond loads-begin) stack-words-at
       ∙ stacks-decode p [] _ _ (h .stacks)
 
 -- the same with none beyond
@@ -294,7 +294,7 @@ pub decodes : (m : Limits) → Decodes m
 decodes m i p h =
     let e = sym (append-nil (words m i p)) in
     record {
-      instance = ap (instanceIn m) e ∙ instance-held m i p h [];
-      stacks = ap (stacksIn m) e ∙ stacks-held m i p h [];
+      instance = ap (instanceIn m) e ∙ instance-decoded m i p h [];
+      stacks = ap (stacksIn m) e ∙ stacks-decoded m i p h [];
       size = ap length e ∙ length-whole (beyond-begins m i p h []);
     }

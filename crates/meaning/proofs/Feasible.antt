@@ -12,8 +12,8 @@ use Rattle.meaning.specs.Claims.{KeptBy, AcceptedWhenFeasible}
 use Rattle.meaning.proofs.Tests.{iff-trans}
 use Rattle.meaning.proofs.Lists.{every-append}
 use Rattle.meaning.proofs.RuleKinds.{stacks-kept}
-use Rattle.meaning.proofs.Sound.{Sound, in-range-sound}
-use Rattle.meaning.proofs.Ranges.{read-in-range}
+use Rattle.meaning.proofs.Sound.{Sound, meets-sound}
+use Rattle.meaning.proofs.Ranges.{read-meets}
 use Rattle.meaning.proofs.Readable.{readable-answer}
 use Rattle.meaning.proofs.Accepted.{accepted-exactly}
 use Rattle.meaning.proofs.ItemRules.{once-exactly, items-exactly}
@@ -91,10 +91,10 @@ module _ (i : Instance) (p : List Stack) (sound : Sound i p) where
       }
 
   verdict-exactly : (verdictOn i p .number ≡ 0) ↔ Feasible i p
-  verdict-exactly = iff-trans (accepted-exactly i p .0) (iff-trans by-family (kept-holds, holds-kept))
+  verdict-exactly = iff-trans (accepted-exactly i p .exactly) (iff-trans by-family (kept-holds, holds-kept))
 
 pub accepted-when-feasible : (m : Limits) → AcceptedWhenFeasible m
 accepted-when-feasible m n instance plan r =
     let i = r .files .says in
     let p = r .files .stacks in
-    rw (readable-answer m n instance plan r) (verdict-exactly i p (in-range-sound m i p (read-in-range m instance plan (r .files))))
+    rw (readable-answer m n instance plan r) (verdict-exactly i p (meets-sound m i p (read-meets m instance plan (r .files))))

@@ -8,7 +8,7 @@ use lib.ListN.{length, getD}
 use Rattle.meaning.specs.Lists.{Every, all, between, listed}
 use Rattle.meaning.specs.Model.{Item, stackNumber}
 use Rattle.meaning.specs.Files.{Range, _to_, allWithin, itemRanges, itemLine, truckRanges, truckLine, stackRanges, stackLine}
-use Rattle.meaning.specs.InRange.{Meets}
+use Rattle.meaning.specs.Meets.{Meets}
 use Rattle.meaning.proofs.Tests.{and-reads, between-reads}
 use Rattle.meaning.proofs.Lists.{every-reads, all-reads, every-at, every-place}
 
@@ -44,8 +44,8 @@ item-within a h k l = field-within (itemRanges a) a k (h .fits) l (omega (arith,
 pub truck-within : (ns : List ℕ) → Meets truckLine ns → (k : ℕ) → k < 20 → Within (getD truckRanges k (0 to 0)) (getD ns k 0)
 truck-within ns h k l = field-within truckRanges ns k (h .fits) l (omega (arith, h .least))
 
-pub stack-within : (trucks : ℕ) (taken ns : List ℕ) → Meets (stackLine trucks taken) ns → (k : ℕ) → k < 6
+pub stack-within : (trucks : ℕ) (earlier ns : List ℕ) → Meets (stackLine trucks earlier) ns → (k : ℕ) → k < 6
     → Within (getD (stackRanges trucks) k (0 to 0)) (getD ns k 0)
-stack-within trucks taken ns h k l =
-    let e = and-reads (allWithin (stackRanges trucks) ns) (not (listed (stackNumber ns) taken)) .0 (h .fits) in
+stack-within trucks earlier ns h k l =
+    let e = and-reads (allWithin (stackRanges trucks) ns) (not (listed (stackNumber ns) earlier)) .0 (h .fits) in
     field-within (stackRanges trucks) ns k (e .0) l (omega (arith, h .least))

@@ -17,7 +17,7 @@ use Rattle.meaning.specs.Rules.{itemPlaces, timesLoaded, notOnce, plantM
 use Rattle.meaning.specs.Feasible.{Stands, Once, ItemFits}
 use Rattle.meaning.proofs.Tests.{and-reads, le-reads, between-reads, iff-trans, iff-both}
 use Rattle.meaning.proofs.Lists.{in-filter, filter-append, in-upFrom, flatMap-none, unless-none, listed-reads}
-use Rattle.meaning.proofs.Orders.{stands-first, stands-later, stands-cases, stands-in, order-in, order-stands, stands-order, row-at}
+use Rattle.meaning.proofs.Orders.{stands-first, stands-later, stands-cases, stands-in, order-in, order-stands, stands-order, list-at}
 use Rattle.meaning.proofs.RuleKinds.{items-kept}
 use Rattle.meaning.proofs.Sound.{Sound}
 
@@ -136,7 +136,7 @@ module _ (i : Instance) (s : Stack) (n : ℕ) where
       (iff-trans (le-reads 1 (plantDockOrder i s it)) (order-in (on .plantDocks) (IG it))))
     where
       same : docksOf on (IU it) ≡ getD (on .docks) (k - 1) []
-      same = ap (λ (j : ℕ). getD ([] ∷ on .docks) j []) e ∙ row-at (on .docks) k from
+      same = ap (λ (j : ℕ). getD ([] ∷ on .docks) j []) e ∙ list-at (on .docks) k from
 
   abbrev Passes : Type 0
   Passes = (plantMatches i s it ≡ true) × (productCarried i s it ≡ true) × (supplierVisited i s it ≡ true) × (arrivesInWindow i s it ≡ true) × (docksServed i s it ≡ true)

@@ -10,7 +10,7 @@ use lib.Signed.{_≤ℤ_}
 use lib.ListN.{length, take}
 use Rattle.meaning.specs.Lists.{In, filter, listed, between, sum, sumℤ}
 use Rattle.meaning.specs.Model.{Instance, Truck, Stack, truckNumbered, truckOf, x, IU, TMm, CM, CJfm, CJfc, CJfh, EM, EJhr, EJcr, EJeh, EMmr, EMmm}
-use Rattle.meaning.specs.Measures.{bottom, xe, sm, supplierOrder, UsedTruck, usedBy, sameUsed, usedTrucks, stacksOn, weightOn, departures, stacksAt, lever, H}
+use Rattle.meaning.specs.Measures.{bottom, xe, sm, supplierOrder, UsedTruck, usedBy, sameUsed, usedTrucks, stacksOn, weightOn, departures, stacksAtDeparture, lever, H}
 use Rattle.meaning.specs.Rules.{truckPlaces, departurePlaces, counts, withinLoadLimit, middleAxleHolds, rearAxleHolds}
 use Rattle.meaning.specs.Feasible.{weightOf, sumWhere, onTruckOf, onAt, endX, toMiddle, toRear, AxleLoadsWithin}
 use Rattle.meaning.proofs.Tests.{decide, and-reads, le-reads, leZ-reads, iff-trans, iff-sym}
@@ -85,8 +85,8 @@ in-departures i u k =
     ((λ m. let w = h .0 m in (w .0, omega (arith, w .1))), (λ w. h .1 (w .0, omega (arith, w .1))))
 
 -- the stacks that are on at departure k of the used truck of s are those that the picture picks
-on-at : (i : Instance) (p : List Stack) (s : Stack) (k : ℕ) → stacksAt i p (usedBy s) k ≡ filter (onAt i s k) p
-unfolding stacksAt stacksOn
+on-at : (i : Instance) (p : List Stack) (s : Stack) (k : ℕ) → stacksAtDeparture i p (usedBy s) k ≡ filter (onAt i s k) p
+unfolding stacksAtDeparture stacksOn
 on-at i p s k = filter-twice (onTruckOf s) (λ r. between 1 k (supplierOrder i r)) p ∙ filter-same _ (onAt i s k) p same
   where
     -- the order of a supplier on one truck
@@ -189,7 +189,7 @@ module _ (i : Instance) (p : List Stack) (sound : Sound i p) where
 
   -- 27 and 28 at one departure of the used truck of s
   bears-reads : (s : Stack) (k : ℕ)
-      → ((middleAxleHolds i (truckOf i s) (stacksAt i p (usedBy s) k) ≡ true) × (rearAxleHolds i (truckOf i s) (stacksAt i p (usedBy s) k) ≡ true))
+      → ((middleAxleHolds i (truckOf i s) (stacksAtDeparture i p (usedBy s) k) ≡ true) × (rearAxleHolds i (truckOf i s) (stacksAtDeparture i p (usedBy s) k) ≡ true))
       ↔ AxleLoadsWithin i p s k (truckOf i s)
   bears-reads s k =
       let t = truckOf i s in
@@ -203,23 +203,23 @@ module _ (i : Instance) (p : List Stack) (sound : Sound i p) where
 
   -- a departure counts exactly when one of the stacks that are on begins it
   abbrev KeptAt : (Instance → Truck → List Stack → Bool) → Type 0
-  KeptAt kept = (s : Stack) → In s p → (k : ℕ) → 1 ≤ k → k ≤ length (truckOf i s .suppliers) → onAt i s k s ≡ true → kept i (truckOf i s) (stacksAt i p (usedBy s) k) ≡ true
+  KeptAt kept = (s : Stack) → In s p → (k : ℕ) → 1 ≤ k → k ≤ length (truckOf i s .suppliers) → onAt i s k s ≡ true → kept i (truckOf i s) (stacksAtDeparture i p (usedBy s) k) ≡ true
 
   departure-reads : (kept : Instance → Truck → List Stack → Bool) → (departurePlaces kept i p ≡ []) ↔ KeptAt kept
   departure-reads kept = (
     (λ e s m k lo hi on.
         departures-kept i p kept .0 e (usedBy s) (in-used p (usedBy s) .1 (s, m, refl)) k (in-departures i (usedBy s) k .1 (lo, hi))
-        (counts-reads (stacksAt i p (usedBy s) k) .1 (s, rw (on-at i p s k) (in-filter (onAt i s k) p s .1 (m, on))))),
+        (counts-reads (stacksAtDeparture i p (usedBy s) k) .1 (s, rw (on-at i p s k) (in-filter (onAt i s k) p s .1 (m, on))))),
     (λ f. departures-kept i p kept .1 (λ u m k n c.
         let w = in-used p u .0 m in
-        subst (λ (v : UsedTruck). In k (departures i v) → counts (stacksAt i p v k) ≡ true → kept i (truckNumbered i (v .truck)) (stacksAt i p v k) ≡ true)
+        subst (λ (v : UsedTruck). In k (departures i v) → counts (stacksAtDeparture i p v k) ≡ true → kept i (truckNumbered i (v .truck)) (stacksAtDeparture i p v k) ≡ true)
         (sym (w .2)) (at-stack (w .0) k f) n c)),
   )
     where
-      at-stack : (s : Stack) (k : ℕ) → KeptAt kept → In k (departures i (usedBy s)) → counts (stacksAt i p (usedBy s) k) ≡ true
-          → kept i (truckOf i s) (stacksAt i p (usedBy s) k) ≡ true
+      at-stack : (s : Stack) (k : ℕ) → KeptAt kept → In k (departures i (usedBy s)) → counts (stacksAtDeparture i p (usedBy s) k) ≡ true
+          → kept i (truckOf i s) (stacksAtDeparture i p (usedBy s) k) ≡ true
       at-stack s k f n c =
-          let r = counts-reads (stacksAt i p (usedBy s) k) .0 c in
+          let r = counts-reads (stacksAtDeparture i p (usedBy s) k) .0 c in
           let h = in-filter (onAt i s k) p (r .0) .0 (subst (λ (l : List Stack). In (r .0) l) (on-at i p s k) (r .1)) in
           let both = and-reads (onTruckOf s (r .0)) (listed (IU (bottom i (r .0))) (take k (truckOf i s .suppliers))) .0 (h .1) in
           let o = one-truck s (r .0) .0 (both .0) in
@@ -229,7 +229,7 @@ module _ (i : Instance) (p : List Stack) (sound : Sound i p) where
           let itself : onAt i (r .0) k (r .0) ≡ true =
           and-reads (onTruckOf (r .0) (r .0)) (listed (IU (bottom i (r .0))) (take k (truckOf i (r .0) .suppliers))) .1
           (one-truck (r .0) (r .0) .1 (record { truck = refl; copy = refl }), rw same (both .1)) in
-          subst (λ (v : UsedTruck). kept i (truckNumbered i (v .truck)) (stacksAt i p v k) ≡ true) used
+          subst (λ (v : UsedTruck). kept i (truckNumbered i (v .truck)) (stacksAtDeparture i p v k) ≡ true) used
           (f (r .0) (h .0) k (d .0) (rw same (d .1)) itself)
 
   -- 27 middle and 28 rear

@@ -12,9 +12,11 @@ pub mod Outcomes
 pub mod ReadFiles
 pub mod Digits
 pub mod Printed
+pub mod Fields
+pub mod InRange
 pub mod Ranges
 pub mod ReadBack
-pub mod Fields
+pub mod Clash
 pub mod ReadExactly
 pub mod Decode
 pub mod TableAfter

@@ -16,20 +16,20 @@ use Rattle.meaning.specs.Rules.{pairPlaces, docksNotAfter, loadsBefore, 
 use Rattle.meaning.specs.Feasible.{SameTruck, Stands, Earlier, NotLater, ItemFits, MustPrecede, bySupplier, byDock, byPlantDock}
 use Rattle.meaning.proofs.Tests.{true≢false, and-reads, or-reads, not-reads, le-reads, lt-reads}
 use Rattle.meaning.proofs.Lists.{all-reads}
-use Rattle.meaning.proofs.Orders.{order-stands, stands-order, placed-reads, row-at}
+use Rattle.meaning.proofs.Orders.{order-stands, stands-order, placed-reads, list-at}
 use Rattle.meaning.proofs.RuleKinds.{pairs-kept}
 use Rattle.meaning.proofs.Sound.{SoundStack, Sound}
 
 -- ---- the docks of a supplier
--- its row among the docks is the one at its place
+-- its list among the docks is the one at its place
 docks-at : (t : Truck) (supplier k : ℕ) → distinct (t .suppliers) ≡ true → Stands (t .suppliers) supplier k → docksOf t supplier ≡ getD (t .docks) (k - 1) []
-docks-at t supplier k d h = ap (λ (j : ℕ). getD ([] ∷ t .docks) j []) (stands-order (t .suppliers) supplier k d h) ∙ row-at (t .docks) k (h .from)
+docks-at t supplier k d h = ap (λ (j : ℕ). getD ([] ∷ t .docks) j []) (stands-order (t .suppliers) supplier k d h) ∙ list-at (t .docks) k (h .from)
 
-row-distinct : (rows : List (List ℕ)) (k : ℕ) → Every (λ (d : List ℕ). distinct d ≡ true) rows → distinct (getD rows k []) ≡ true
+list-distinct : (lists : List (List ℕ)) (k : ℕ) → Every (λ (d : List ℕ). distinct d ≡ true) lists → distinct (getD lists k []) ≡ true
 unfolding distinct
-row-distinct [] k h = refl
-row-distinct (d ∷ rows) zero h = h .0
-row-distinct (d ∷ rows) (suc k) h = row-distinct rows k (h .1)
+list-distinct [] k h = refl
+list-distinct (d ∷ lists) zero h = h .0
+list-distinct (d ∷ lists) (suc k) h = list-distinct lists k (h .1)
 
 -- a stack whose supplier, supplier dock and plant docks are listed on a truck
 record Listed (i : Instance) (t : Truck) (s : Stack) : Type 0 where
@@ -82,15 +82,15 @@ module _ (i : Instance) (s r : Stack) (sound : SoundStack i s) (same : truckOf i
 
   docks-distinct : (k : ℕ) → distinct (getD ([] ∷ t .docks) k []) ≡ true
   unfolding distinct
-  docks-distinct k = row-distinct ([] ∷ t .docks) k (refl, sound .docks)
+  docks-distinct k = list-distinct ([] ∷ t .docks) k (refl, sound .docks)
 
   -- (2), for the docks of the one supplier
   by-dock : IU (bottom i s) ≡ IU (bottom i r) → (smallerDock ≡ true) ↔ Earlier (docksOf t (IU (bottom i s))) (IK (bottom i s)) (IK (bottom i r))
   by-dock e =
-      let row : docksOf (truckOf i r) (IU (bottom i r)) ≡ docksOf t (IU (bottom i s)) = ap (λ (w : Truck). docksOf w (IU (bottom i r))) same ∙ ap (docksOf t) (sym e) in
+      let sameDocks : docksOf (truckOf i r) (IU (bottom i r)) ≡ docksOf t (IU (bottom i s)) = ap (λ (w : Truck). docksOf w (IU (bottom i r))) same ∙ ap (docksOf t) (sym e) in
       let there : In (IK (bottom i r)) (docksOf t (IU (bottom i s))) = subst (λ (u : ℕ). In (IK (bottom i r)) (docksOf t u)) (sym e) (b .dock) in
       let d : distinct (docksOf t (IU (bottom i s))) ≡ true = docks-distinct (orderIn (t .suppliers) (IU (bottom i s))) in
-      rw row (placed-reads ltb _<_ lt-reads (docksOf t (IU (bottom i s))) d (IK (bottom i s)) (IK (bottom i r)) (a .dock) there)
+      rw sameDocks (placed-reads ltb _<_ lt-reads (docksOf t (IU (bottom i s))) d (IK (bottom i s)) (IK (bottom i r)) (a .dock) there)
 
   -- (3), and its reverse
   upTo : (docksNotAfter i s r ≡ true) ↔ ((n m : ℕ) → In n (s .load) → In m (r .load) → NotLater (t .plantDocks) (IG (item i n)) (IG (item i m)))

@@ -103,10 +103,10 @@ placed-reads test R reads l d a b m n =
       (λ h. reads j k .1 (rw (stands-order l a (h .first) d (h .ofFirst), stands-order l b (h .second) d (h .ofSecond)) (h .order))),
     )
 
--- ---- a row for each entry of another list, and none for an entry that is not listed
-pub row-at : (rows : List (List ℕ)) (k : ℕ) → 1 ≤ k → getD ([] ∷ rows) k [] ≡ getD rows (k - 1) []
-row-at rows zero h = absurd (omega arith)
-row-at rows (suc k) h = ap (λ (j : ℕ). getD rows j []) (sym (one-back k))
+-- ---- a list for each entry of another list, and none for an entry that is not listed
+pub list-at : (lists : List (List ℕ)) (k : ℕ) → 1 ≤ k → getD ([] ∷ lists) k [] ≡ getD lists (k - 1) []
+list-at lists zero h = absurd (omega arith)
+list-at lists (suc k) h = ap (λ (j : ℕ). getD lists j []) (sym (one-back k))
 
 -- ---- the first k entries
 in-take : (l : List ℕ) (n k j : ℕ) → Stands l n j → j ≤ k → In n (take k l)

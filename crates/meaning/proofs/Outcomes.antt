@@ -14,7 +14,7 @@ use Rattle.meaning.specs.Lists.{any, between, listed}
 use Rattle.meaning.specs.Text.{Form, entries, badForm, badRange, countBefore, judgedLine, takeLine, lineNumbers}
 use Rattle.meaning.specs.Reader.{Outcome, found, wrongForm, outOfRange, Reader, onward, atLine, line}
 use Rattle.meaning.specs.Reorder.{ended, OneLine}
-use Rattle.meaning.specs.InRange.{Meets}
+use Rattle.meaning.specs.Meets.{Meets}
 use Rattle.meaning.proofs.Tests.{or-false, lt-reads, eq-reads, between-reads}
 
 -- ---- properties of an outcome
@@ -99,7 +99,7 @@ drop-line : (l rest : List ℕ) → drop (suc (length l)) (l ++ 10 ∷ rest) ≡
 drop-line [] rest = refl
 drop-line (b ∷ l) rest = drop-line l rest
 
--- what is taken from a line with bytes after it is decided by the line's numbers
+-- what is earlier from a line with bytes after it is decided by the line's numbers
 take-ended : (f : Form) (l rest : List ℕ) → OneLine l → takeLine f (ended l ++ rest) ≡ judgedLine f rest (lineNumbers (f .key) l)
 unfolding takeLine
 take-ended f l rest h =

@@ -11,11 +11,11 @@ use Rattle.meaning.specs.Lists.{Every, between}
 use Rattle.meaning.specs.Text.{Form}
 use Rattle.meaning.specs.Reader.{Outcome, found, wrongForm, outOfRange, Reader, give, _>>=_, line, times}
 use Rattle.meaning.specs.Model.{Instance, Stack, stackNumber}
-use Rattle.meaning.specs.Files.{Range, _to_, allWithin, rowLine, numberLine, truckLines, instanceLines, stackLines, planLines}
+use Rattle.meaning.specs.Files.{Range, _to_, allWithin, fieldsLine, numberLine, truckLines, instanceLines, stackLines, planLines}
 use Rattle.meaning.specs.Files.{itemLine, truckLine, productsLine, suppliersLine, docksLine, plantDocksLine, stackLine, loadLine}
 use Rattle.meaning.specs.Reorder.{ended, pairBytes, planOf}
 use Rattle.meaning.specs.Print.{printedLine, printedTruck, printedInstance, printedStack, printedPlan}
-use Rattle.meaning.specs.InRange.{Meets, TruckInRange, InstanceInRange, StacksInRange, InRange}
+use Rattle.meaning.specs.Meets.{Meets, TruckMeets, InstanceMeets, StacksMeet, FilesMeet}
 use Rattle.meaning.specs.Claims.{Readable, IsPrinted, ReadPrinted}
 use Rattle.meaning.proofs.Tests.{and-reads, between-reads}
 use Rattle.meaning.proofs.Outcomes.{Leaves, Finds, leaves-onward, leaves-map, leaves-line}
@@ -85,7 +85,7 @@ yields-line f =
     }
 
 -- the one number of a line with one range
-one-number : (key : String) (r : Range) (ns : List ℕ) → Meets (rowLine key (r ∷ [])) ns
+one-number : (key : String) (r : Range) (ns : List ℕ) → Meets (fieldsLine key (r ∷ [])) ns
     → ((r .low ≤ getD ns 0 0) × (getD ns 0 0 ≤ r .high)) × (ns ≡ getD ns 0 0 ∷ [])
 unfolding allWithin
 one-number key r [] h = absurd (omega (arith, h .least))
@@ -95,12 +95,12 @@ one-number key r (n ∷ k ∷ ns) h = absurd (omega (arith, h .most))
 yields-number : (key : String) (r : Range) → Yields [] (λ v. (r .low ≤ v) × (v ≤ r .high)) (λ v. ended (printedLine key (v ∷ []))) (numberLine key r)
 unfolding numberLine
 yields-number key r =
-    yields-then (yields-line (rowLine key (r ∷ []))) (λ ns h.
+    yields-then (yields-line (fieldsLine key (r ∷ []))) (λ ns h.
     let t = one-number key r ns h in
     yields-give (getD ns 0 0) (t .0) (ap (λ (l : List ℕ). ended (printedLine key l)) (t .1)))
 
 -- ---- the instance
-yields-truck : Yields [] TruckInRange printedTruck truckLines
+yields-truck : Yields [] TruckMeets printedTruck truckLines
 unfolding truckLines printedTruck
 yields-truck =
     yields-then (yields-line truckLine) (λ fields f.
@@ -110,7 +110,7 @@ yields-truck =
     yields-then (yields-line plantDocksLine) (λ plantDocks q.
     yields-give _ (record { fields = f; products = p; suppliers = s; dockLines = d .0; docks = d .1; plantDocks = q }) refl)))))
 
-yields-instance : (m : Limits) → Yields [] (InstanceInRange m) printedInstance (instanceLines m)
+yields-instance : (m : Limits) → Yields [] (InstanceMeets m) printedInstance (instanceLines m)
 unfolding instanceLines printedInstance
 yields-instance m =
     yields-then (yields-number "transport=" (0 to 1000)) (λ αT t.
@@ -133,22 +133,22 @@ yields-instance m =
     }) (rw (c .0, d .0)))))))))
 
 -- ---- the plan
-yields-stacks : (most items trucks count : ℕ) (taken : List ℕ) (held : ℕ)
-    → Yields [] (λ p. (length p ≡ count) × StacksInRange most items trucks taken held p) (λ p. flatMap pairBytes (map printedStack p))
-    (stackLines most items trucks count taken held)
+yields-stacks : (most items trucks count : ℕ) (earlier : List ℕ) (loaded : ℕ)
+    → Yields [] (λ p. (length p ≡ count) × StacksMeet most items trucks earlier loaded p) (λ p. flatMap pairBytes (map printedStack p))
+    (stackLines most items trucks count earlier loaded)
 unfolding stackLines flatMap
-yields-stacks most items trucks zero taken held = yields-none [] (refl, tt) refl
-yields-stacks most items trucks (suc count) taken held =
-    yields-then (yields-line (stackLine trucks taken)) (λ fields f.
-    yields-then (yields-line (loadLine most items held)) (λ load l.
-    yields-then (yields-stacks most items trucks count (stackNumber fields ∷ taken) (held + length load)) (λ p k.
+yields-stacks most items trucks zero earlier loaded = yields-none [] (refl, tt) refl
+yields-stacks most items trucks (suc count) earlier loaded =
+    yields-then (yields-line (stackLine trucks earlier)) (λ fields f.
+    yields-then (yields-line (loadLine most items loaded)) (λ load l.
+    yields-then (yields-stacks most items trucks count (stackNumber fields ∷ earlier) (loaded + length load)) (λ p k.
     yields-give _ (ap suc (k .0), (f, l, k .1))
     (sym (append-assoc (ended (printedLine "stack=" fields)) (ended (printedLine "load=" load)) (flatMap pairBytes (map printedStack p)))))))
 
-abbrev PlanInRange : Limits → Instance → List Stack → Type 0
-PlanInRange m i p = (length p ≤ m .stacks) × StacksInRange (m .loads) (length (i .items)) (length (i .trucks)) [] 0 p
+abbrev PlanMeets : Limits → Instance → List Stack → Type 0
+PlanMeets m i p = (length p ≤ m .stacks) × StacksMeet (m .loads) (length (i .items)) (length (i .trucks)) [] 0 p
 
-yields-plan : (m : Limits) (i : Instance) → Yields [] (PlanInRange m i) printedPlan (planLines m i)
+yields-plan : (m : Limits) (i : Instance) → Yields [] (PlanMeets m i) printedPlan (planLines m i)
 unfolding planLines printedPlan planOf
 yields-plan m i =
     yields-then (yields-number "stacks=" (0 to m .stacks)) (λ count c.
@@ -163,18 +163,18 @@ yielded P text bs a (wrongForm n) h k = absurd k
 yielded P text bs a (outOfRange n) h k = absurd k
 
 -- an instance that was read is in range and was printed: both at once, since the same walk through the readers gives both
-pub instance-off : (m : Limits) (bs : List ℕ) (i : Instance) → Finds (Wholly i) (instanceLines m 1 bs) → InstanceInRange m i × (bs ≡ printedInstance i)
-instance-off m bs i h = yielded (InstanceInRange m) printedInstance bs i (instanceLines m 1 bs) (yields-instance m .yields 1 bs) h
+pub instance-off : (m : Limits) (bs : List ℕ) (i : Instance) → Finds (Wholly i) (instanceLines m 1 bs) → InstanceMeets m i × (bs ≡ printedInstance i)
+instance-off m bs i h = yielded (InstanceMeets m) printedInstance bs i (instanceLines m 1 bs) (yields-instance m .yields 1 bs) h
 
 -- so are both files
 pub read-off : (m : Limits) (instance plan : List ℕ) (r : Readable m instance plan)
-    → InRange m (r .says) (r .stacks) × IsPrinted instance plan (r .says) (r .stacks)
+    → FilesMeet m (r .says) (r .stacks) × IsPrinted instance plan (r .says) (r .stacks)
 read-off m instance plan r =
     let i = r .says in
     let p = r .stacks in
     let h = read-reads m instance plan i p .0 (r .read) in
     let a = instance-off m instance i (h .says) in
-    let b = yielded (PlanInRange m i) printedPlan plan p (planLines m i 1 plan) (yields-plan m i .yields 1 plan) (h .stacks) in
+    let b = yielded (PlanMeets m i) printedPlan plan p (planLines m i 1 plan) (yields-plan m i .yields 1 plan) (h .stacks) in
     (record { instance = a .0; stackCount = b .0 .0; stacks = b .0 .1 }, record { says = a .1; stacks = b .1 })
 
 pub read-printed : (m : Limits) → ReadPrinted m

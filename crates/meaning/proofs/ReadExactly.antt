@@ -13,11 +13,11 @@ use Rattle.meaning.specs.Limits.{small}
 use Rattle.meaning.specs.Text.{Form, bytes}
 use Rattle.meaning.specs.Reader.{found, Reader, give, onward, _>>=_, line, times}
 use Rattle.meaning.specs.Model.{Instance, Truck, Stack, IL, IH, number, stackNumber}
-use Rattle.meaning.specs.Files.{Range, _to_, allWithin, rowLine, identifiersLine, numberLine, truckLines, instanceLines, stackLines, planLines}
+use Rattle.meaning.specs.Files.{Range, _to_, allWithin, fieldsLine, identifiersLine, numberLine, truckLines, instanceLines, stackLines, planLines}
 use Rattle.meaning.specs.Files.{itemRanges, itemLine, truckRanges, truckLine, stackRanges, stackLine, loadLine}
 use Rattle.meaning.specs.Reorder.{ended, OneLine, pairBytes, planOf}
 use Rattle.meaning.specs.Print.{printedLine, printedTruck, printedInstance, printedStack, printedPlan}
-use Rattle.meaning.specs.InRange.{Meets, TruckInRange, InstanceInRange, StacksInRange, InRange}
+use Rattle.meaning.specs.Meets.{Meets, TruckMeets, InstanceMeets, StacksMeet, FilesMeet}
 use Rattle.meaning.specs.Claims.{Readable, TenDigitLimits, ReadExactly}
 use Rattle.meaning.proofs.Tests.{and-reads, between-reads}
 use Rattle.meaning.proofs.Lists.{every-map}
@@ -26,6 +26,8 @@ use Rattle.meaning.proofs.Outcomes.{Finds, finds-ended}
 use Rattle.meaning.proofs.ReadFiles.{Wholly, read-reads}
 use Rattle.meaning.proofs.Printed.{read-printed}
 use Rattle.meaning.proofs.Ranges.{read-in-range}
+use Rattle.meaning.proofs.InRange.{files-in-range}
+use Rattle.meaning.proofs.Clash.{no-clash}
 use Rattle.meaning.proofs.ReadBack.{line-one, TenDigits, line-read}
 
 -- ---- forms whose lines are read back
@@ -40,8 +42,8 @@ record Plain (f : Form) : Type 0 where
   digits : (ns : List ℕ) → Meets f ns → Every TenDigits ns
 
 -- lines with a range for each entry, and lines of identifiers
-plain-row : (key : String) (rs : List Range) → OneLine (bytes key) → 1 ≤ length rs → TenDigitEnds rs → Plain (rowLine key rs)
-plain-row key rs o l e = record { oneLine = o; entries = l; digits = λ ns h. ranges-below _ rs ns e (h .most) (h .fits) }
+plain-fields : (key : String) (rs : List Range) → OneLine (bytes key) → 1 ≤ length rs → TenDigitEnds rs → Plain (fieldsLine key rs)
+plain-fields key rs o l e = record { oneLine = o; entries = l; digits = λ ns h. ranges-below _ rs ns e (h .most) (h .fits) }
 
 plain-identifiers : (key : String) (most : ℕ) → OneLine (bytes key) → Plain (identifiersLine key most)
 plain-identifiers key most o =
@@ -64,28 +66,28 @@ plain-item = record { oneLine = refl; entries = omega arith; digits = ten }
 
 plain-truck : Plain truckLine
 unfolding any
-plain-truck = plain-row "truck=" truckRanges refl (omega arith) (omega arith)
+plain-truck = plain-fields "truck=" truckRanges refl (omega arith) (omega arith)
 
 -- a stack's truck and the items of a load are at most as many as there are
-plain-stack : (trucks : ℕ) (taken : List ℕ) → TenDigits trucks → Plain (stackLine trucks taken)
+plain-stack : (trucks : ℕ) (earlier : List ℕ) → TenDigits trucks → Plain (stackLine trucks earlier)
 unfolding any
-plain-stack trucks taken e =
+plain-stack trucks earlier e =
     record {
       oneLine = refl;
       entries = omega arith;
       digits =
           λ ns h.
           ranges-below _ (stackRanges trucks) ns (omega arith) (h .most)
-          (and-reads (allWithin (stackRanges trucks) ns) (not (listed (stackNumber ns) taken)) .0 (h .fits) .0);
+          (and-reads (allWithin (stackRanges trucks) ns) (not (listed (stackNumber ns) earlier)) .0 (h .fits) .0);
     }
 
-plain-load : (most items held : ℕ) → TenDigits items → Plain (loadLine most items held)
+plain-load : (most items loaded : ℕ) → TenDigits items → Plain (loadLine most items loaded)
 unfolding any
-plain-load most items held e =
+plain-load most items loaded e =
     record {
       oneLine = refl;
       entries = omega arith;
-      digits = λ ns h. range-below _ 1 items ns e (and-reads (all (between 1 items) ns) (leb (held + length ns) most) .0 (h .fits) .0);
+      digits = λ ns h. range-below _ 1 items ns e (and-reads (all (between 1 items) ns) (leb (loaded + length ns) most) .0 (h .fits) .0);
     }
 
 -- ---- what a reader finds in a text
@@ -122,7 +124,7 @@ reads-number : (key : String) (r : Range) (v : ℕ) → OneLine (bytes key) → 
 unfolding numberLine allWithin
 reads-number key r v o e low high =
     let fits = and-reads (between (r .low) (r .high) v) true .1 (between-reads (r .low) (r .high) v .1 (low, high), refl) in
-    let s = plain-row key (r ∷ []) o (omega arith) (e, tt) in
+    let s = plain-fields key (r ∷ []) o (omega arith) (e, tt) in
     reads-last (λ ns. getD ns 0 0) (reads-line s (record { least = omega arith; most = omega arith; fits = fits }))
 
 -- as many values as there are texts, and so for lines of one form
@@ -136,7 +138,7 @@ reads-lines : {f : Form} (l : List (List ℕ)) → Plain f → Every (Meets f) l
 reads-lines {f} l s h = reads-times _ (line f) l (every-map (Meets f) _ (λ ns k. reads-line s k) l h)
 
 -- ---- the instance: the walks go through the lines as the readers do
-reads-truck : (t : Truck) → TruckInRange t → Reads t (printedTruck t) truckLines
+reads-truck : (t : Truck) → TruckMeets t → Reads t (printedTruck t) truckLines
 unfolding truckLines printedTruck any
 reads-truck t h =
     reads-then _ (reads-line plain-truck (h .fields))
@@ -145,7 +147,7 @@ reads-truck t h =
     (reads-then _ (rw (h .dockLines) at (reads-lines (t .docks) (plain-identifiers "docks=" 8 refl) (h .docks)))
     (reads-last _ (reads-line (plain-identifiers "plantdocks=" 8 refl) (h .plantDocks))))))
 
-reads-instance : (m : Limits) → TenDigitLimits m → (i : Instance) → InstanceInRange m i → Reads i (printedInstance i) (instanceLines m)
+reads-instance : (m : Limits) → TenDigitLimits m → (i : Instance) → InstanceMeets m i → Reads i (printedInstance i) (instanceLines m)
 unfolding instanceLines printedInstance any
 reads-instance m few i h =
     reads-then _ (reads-number "transport=" (0 to 1000) (i .αT) refl (omega arith) (omega arith) (h .αT))
@@ -154,21 +156,21 @@ reads-instance m few i h =
     (reads-then _ (reads-number "items=" (1 to m .items) (length (i .items)) refl (omega (arith, few .items)) (h .someItem) (h .itemCount))
     (reads-then _ (reads-number "trucks=" (1 to m .trucks) (length (i .trucks)) refl (omega (arith, few .trucks)) (h .someTruck) (h .truckCount))
     (reads-then _ (reads-lines (i .items) plain-item (h .items))
-    (reads-last _ (reads-times printedTruck truckLines (i .trucks) (every-map TruckInRange _ reads-truck (i .trucks) (h .trucks)))))))))
+    (reads-last _ (reads-times printedTruck truckLines (i .trucks) (every-map TruckMeets _ reads-truck (i .trucks) (h .trucks)))))))))
 
 -- ---- the plan
 module _ (most items trucks : ℕ) (fewItems : TenDigits items) (fewTrucks : TenDigits trucks) where
-  reads-stacks : (taken : List ℕ) (held : ℕ) (p : List Stack) → StacksInRange most items trucks taken held p
-      → Reads p (flatMap pairBytes (map printedStack p)) (stackLines most items trucks (length p) taken held)
+  reads-stacks : (earlier : List ℕ) (loaded : ℕ) (p : List Stack) → StacksMeet most items trucks earlier loaded p
+      → Reads p (flatMap pairBytes (map printedStack p)) (stackLines most items trucks (length p) earlier loaded)
   unfolding stackLines flatMap
-  reads-stacks taken held [] h = reads-none []
-  reads-stacks taken held (s ∷ p) h =
+  reads-stacks earlier loaded [] h = reads-none []
+  reads-stacks earlier loaded (s ∷ p) h =
       rw (append-assoc (ended (printedLine "stack=" (s .fields))) (ended (printedLine "load=" (s .load))) (flatMap pairBytes (map printedStack p)))
-      (reads-then _ (reads-line (plain-stack trucks taken fewTrucks) (h .0))
-      (reads-then _ (reads-line (plain-load most items held fewItems) (h .1))
-      (reads-last (λ rest. s ∷ rest) (reads-stacks (number s ∷ taken) (held + length (s .load)) p (h .2)))))
+      (reads-then _ (reads-line (plain-stack trucks earlier fewTrucks) (h .0))
+      (reads-then _ (reads-line (plain-load most items loaded fewItems) (h .1))
+      (reads-last (λ rest. s ∷ rest) (reads-stacks (number s ∷ earlier) (loaded + length (s .load)) p (h .2)))))
 
-reads-plan : (m : Limits) → TenDigitLimits m → (i : Instance) (p : List Stack) → InRange m i p → Reads p (printedPlan p) (planLines m i)
+reads-plan : (m : Limits) → TenDigitLimits m → (i : Instance) (p : List Stack) → FilesMeet m i p → Reads p (printedPlan p) (planLines m i)
 unfolding planLines printedPlan planOf any
 reads-plan m few i p h =
     let items = length (i .items) in
@@ -193,17 +195,18 @@ read-exactly m few instance plan i p =
           record {
             printed = read-printed m instance plan r;
             inRange = read-in-range m instance plan r;
-            noClash = h .noClash;
+            noClash = no-clash i .0 (h .noClash);
             instanceBytes = h .shortInstance;
             planBytes = h .shortPlan;
           }),
       (λ h.
+          let met = files-in-range m i p .1 (h .inRange) in
           steps .1 (record {
             shortInstance = h .instanceBytes;
             shortPlan = h .planBytes;
-            says = reads-wholly i (printedInstance i) instance (instanceLines m) (h .printed .says) (reads-instance m few i (h .inRange .instance));
-            noClash = h .noClash;
-            stacks = reads-wholly p (printedPlan p) plan (planLines m i) (h .printed .stacks) (reads-plan m few i p (h .inRange));
+            says = reads-wholly i (printedInstance i) instance (instanceLines m) (h .printed .says) (reads-instance m few i (met .instance));
+            noClash = no-clash i .1 (h .noClash);
+            stacks = reads-wholly p (printedPlan p) plan (planLines m i) (h .printed .stacks) (reads-plan m few i p met);
           })),
     )
 

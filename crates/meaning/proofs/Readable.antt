@@ -11,8 +11,8 @@ use Rattle.meaning.specs.declared.Limits.{Limits}
 use Rattle.meaning.specs.Limits.{named}
 use Rattle.meaning.specs.Verdict.{verdictOn}
 use Rattle.meaning.specs.Check.{Reading, refused, readable, readFiles, answerTo, answer}
-use Rattle.meaning.specs.Claims.{ReadableInto, NoneOf1To8, ReadableExactly}
-use Rattle.meaning.proofs.Accepted.{verdict-number}
+use Rattle.meaning.specs.Claims.{ReadableInto, NoneOf1To8, ReadableExactly, Decided}
+use Rattle.meaning.proofs.Accepted.{verdict-number, accepted-exactly, refused-exactly}
 use Rattle.meaning.proofs.TableAfter.{read-refused}
 
 refused-number : (n : ℕ) → (1 ≤ n) × (n ≤ 8) → NoneOf1To8 n → ⊥
@@ -39,3 +39,9 @@ module _ (m : Limits) (n : ℕ) (instance plan : List ℕ) where
 pub readable-exactly : (m : Limits) → ReadableExactly m
 readable-exactly m n instance plan =
     (λ r. rw (readable-answer m n instance plan r) (verdict-number (r .files .says) (r .files .stacks)), readable-by-number m n instance plan)
+
+pub decided : (m : Limits) → Decided m
+decided m n instance plan r =
+    let i = r .files .says in
+    let p = r .files .stacks in
+    rw (readable-answer m n instance plan r) (record { accepted = accepted-exactly i p; refused = refused-exactly i p })

@@ -8,7 +8,7 @@ use borrow.Author.Tests.{eqb-true, eq-eqb}
 use lib.Dec.{eqb}
 use Rattle.meaning.specs.Lists.{In}
 use Rattle.meaning.specs.Model.{Instance, Truck, Stack, Item, item, truckNumbered, number, truck, copy}
-use Rattle.meaning.specs.Measures.{UsedTruck, sameUsed, another, usedTrucks, stacksOn, departures, stacksAt}
+use Rattle.meaning.specs.Measures.{UsedTruck, sameUsed, another, usedTrucks, stacksOn, departures, stacksAtDeparture}
 use Rattle.meaning.specs.Rules.{itemPlaces, stackPlaces, pairPlaces, truckPlaces, departurePlaces, counts}
 use Rattle.meaning.specs.Feasible.{SameTruck, onTruckOf}
 use Rattle.meaning.proofs.Tests.{true≢false, and-reads, not-reads, eq-reads, iff-trans, iff-both}
@@ -80,13 +80,13 @@ module _ (i : Instance) (p : List Stack) where
 
   pub departures-kept : (kept : Instance → Truck → List Stack → Bool)
       → (departurePlaces kept i p ≡ [])
-      ↔ ((u : UsedTruck) → In u (usedTrucks p) → (k : ℕ) → In k (departures i u) → counts (stacksAt i p u k) ≡ true
-      → kept i (truckNumbered i (u .truck)) (stacksAt i p u k) ≡ true)
+      ↔ ((u : UsedTruck) → In u (usedTrucks p) → (k : ℕ) → In k (departures i u) → counts (stacksAtDeparture i p u k) ≡ true
+      → kept i (truckNumbered i (u .truck)) (stacksAtDeparture i p u k) ≡ true)
   unfolding departurePlaces
   departures-kept kept = (
     (λ e u m k n.
-        among-none (counts (stacksAt i p u k)) (kept i (truckNumbered i (u .truck)) (stacksAt i p u k)) _ .0
+        among-none (counts (stacksAtDeparture i p u k)) (kept i (truckNumbered i (u .truck)) (stacksAtDeparture i p u k)) _ .0
         (flatMap-none _ (departures i u) .0 (flatMap-none _ (usedTrucks p) .0 e u m) k n)),
     (λ f. flatMap-none _ (usedTrucks p) .1 (λ u m. flatMap-none _ (departures i u) .1 (λ k n.
-        among-none (counts (stacksAt i p u k)) (kept i (truckNumbered i (u .truck)) (stacksAt i p u k)) _ .1 (f u m k n)))),
+        among-none (counts (stacksAtDeparture i p u k)) (kept i (truckNumbered i (u .truck)) (stacksAtDeparture i p u k)) _ .1 (f u m k n)))),
   )

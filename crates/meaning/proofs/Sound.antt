@@ -14,7 +14,7 @@ use Rattle.meaning.specs.Lists.{In, Every, all, listed, distinct, betwee
 use Rattle.meaning.specs.Model.{Instance, Stack, item, noTruck, truckOf, number, truck, orientation, IL, IW, IH, nesting}
 use Rattle.meaning.specs.Measures.{bottom}
 use Rattle.meaning.specs.Files.{_to_, allWithin, stackRanges, identifiersLine, docksLine, itemLine, stackLine, loadLine}
-use Rattle.meaning.specs.InRange.{Meets, TruckInRange, InstanceInRange, StacksInRange, InRange}
+use Rattle.meaning.specs.Meets.{Meets, TruckMeets, InstanceMeets, StacksMeet, FilesMeet}
 use Rattle.meaning.proofs.Fields.{Within, item-within, stack-within}
 use Rattle.meaning.proofs.Tests.{and-reads, not-reads, between-reads}
 use Rattle.meaning.proofs.Lists.{all-reads, every-map, every-at, at-in, listed-reads}
@@ -43,28 +43,28 @@ line-distinct : (key : String) (most : ℕ) (ns : List ℕ) → Meets (identifie
 line-distinct key most ns h = and-reads (all (between 1 65535) ns) (distinct ns) .0 (h .fits) .1
 
 -- ---- the stacks of an instance in range
-module _ {m : Limits} {i : Instance} (h : InstanceInRange m i) where
+module _ {m : Limits} {i : Instance} (h : InstanceMeets m i) where
   -- each number of a load is that of an item, which is in range
-  loaded-meets : (held : ℕ) (ns : List ℕ) → Meets (loadLine (m .loads) (length (i .items)) held) ns → (n : ℕ) → In n ns → Meets itemLine (item i n)
-  loaded-meets held ns l n k =
-      let e = and-reads (all (between 1 (length (i .items))) ns) (leb (held + length ns) (m .loads)) .0 (l .fits) in
+  loaded-meets : (loaded : ℕ) (ns : List ℕ) → Meets (loadLine (m .loads) (length (i .items)) loaded) ns → (n : ℕ) → In n ns → Meets itemLine (item i n)
+  loaded-meets loaded ns l n k =
+      let e = and-reads (all (between 1 (length (i .items))) ns) (leb (loaded + length ns) (m .loads)) .0 (l .fits) in
       let b = between-reads 1 (length (i .items)) n .0 (all-reads (between 1 (length (i .items))) ns .0 (e .0) n k) in
       every-at (Meets itemLine) (i .items) [] (n - 1) (h .items) (omega (arith, b))
 
   -- what the two lines of a stack give
-  stack-sound : (s : Stack) (taken : List ℕ) (held : ℕ) → Meets (stackLine (length (i .trucks)) taken) (s .fields)
-      → Meets (loadLine (m .loads) (length (i .items)) held) (s .load) → SoundStack i s
-  stack-sound s taken held f l =
+  stack-sound : (s : Stack) (earlier : List ℕ) (loaded : ℕ) → Meets (stackLine (length (i .trucks)) earlier) (s .fields)
+      → Meets (loadLine (m .loads) (length (i .items)) loaded) (s .load) → SoundStack i s
+  stack-sound s earlier loaded f l =
       let first = at-in (s .load) 0 0 (l .least) in
-      let meets = loaded-meets held (s .load) l in
-      let base = meets (getD (s .load) 0 0) first in
-      let field = stack-within (length (i .trucks)) taken (s .fields) f in
-      let ofTruck = every-at TruckInRange (i .trucks) noTruck (truck s - 1) (h .trucks) (omega (arith, field 1 (omega arith))) in
+      let meets = loaded-meets loaded (s .load) l in
+      let bottomMeets = meets (getD (s .load) 0 0) first in
+      let field = stack-within (length (i .trucks)) earlier (s .fields) f in
+      let ofTruck = every-at TruckMeets (i .trucks) noTruck (truck s - 1) (h .trucks) (omega (arith, field 1 (omega arith))) in
       record {
         some = first;
         turned = one-or-two (orientation s) (field 5 (omega arith));
-        long = item-within (bottom i s) base 0 (omega arith) .0;
-        wide = item-within (bottom i s) base 1 (omega arith) .0;
+        long = item-within (bottom i s) bottomMeets 0 (omega arith) .0;
+        wide = item-within (bottom i s) bottomMeets 1 (omega arith) .0;
         nested = λ n k. omega (arith, item-within (item i n) (meets n k) 3 (omega arith));
         suppliers = line-distinct _ _ _ (ofTruck .suppliers);
         docks = every-map (Meets docksLine) _ (line-distinct _ _) (truckOf i s .docks) (ofTruck .docks);
@@ -72,34 +72,34 @@ module _ {m : Limits} {i : Instance} (h : InstanceInRange m i) where
       }
 
   -- and so every stack, whatever stands before it
-  stacks-sound : (taken : List ℕ) (held : ℕ) (p : List Stack) → StacksInRange (m .loads) (length (i .items)) (length (i .trucks)) taken held p
+  stacks-sound : (earlier : List ℕ) (loaded : ℕ) (p : List Stack) → StacksMeet (m .loads) (length (i .items)) (length (i .trucks)) earlier loaded p
       → (s : Stack) → In s p → SoundStack i s
-  stacks-sound taken held [] k s n = absurd n
-  stacks-sound taken held (r ∷ p) k s (inl e) = subst (SoundStack i) (sym e) (stack-sound r taken held (k .0) (k .1))
-  stacks-sound taken held (r ∷ p) k s (inr n) = stacks-sound _ _ p (k .2) s n
+  stacks-sound earlier loaded [] k s n = absurd n
+  stacks-sound earlier loaded (r ∷ p) k s (inl e) = subst (SoundStack i) (sym e) (stack-sound r earlier loaded (k .0) (k .1))
+  stacks-sound earlier loaded (r ∷ p) k s (inr n) = stacks-sound _ _ p (k .2) s n
 
 -- ---- the numbers of the stacks
 module _ (most items trucks : ℕ) where
-  -- no stack has a number that is taken
-  pub not-taken : (taken : List ℕ) (held : ℕ) (p : List Stack) → StacksInRange most items trucks taken held p
-      → (s : Stack) → In s p → In (number s) taken → ⊥
-  not-taken taken held [] h s m k = m
-  not-taken taken held (r ∷ p) h s (inl e) k =
-      let f = and-reads (allWithin (stackRanges trucks) (r .fields)) (not (listed (number r) taken)) .0 (h .0 .fits) in
-      not-reads (listed (number r) taken) .0 (f .1) (listed-reads (number r) taken .1 (subst (λ (z : Stack). In (number z) taken) e k))
-  not-taken taken held (r ∷ p) h s (inr m) k = not-taken _ _ p (h .2) s m (inr k)
+  -- no stack has a number that is earlier
+  pub not-earlier : (earlier : List ℕ) (loaded : ℕ) (p : List Stack) → StacksMeet most items trucks earlier loaded p
+      → (s : Stack) → In s p → In (number s) earlier → ⊥
+  not-earlier earlier loaded [] h s m k = m
+  not-earlier earlier loaded (r ∷ p) h s (inl e) k =
+      let f = and-reads (allWithin (stackRanges trucks) (r .fields)) (not (listed (number r) earlier)) .0 (h .0 .fits) in
+      not-reads (listed (number r) earlier) .0 (f .1) (listed-reads (number r) earlier .1 (subst (λ (z : Stack). In (number z) earlier) e k))
+  not-earlier earlier loaded (r ∷ p) h s (inr m) k = not-earlier _ _ p (h .2) s m (inr k)
 
   -- so two stacks with one number are one stack
-  known-by-number : (taken : List ℕ) (held : ℕ) (p : List Stack) → StacksInRange most items trucks taken held p
+  known-by-number : (earlier : List ℕ) (loaded : ℕ) (p : List Stack) → StacksMeet most items trucks earlier loaded p
       → (s r : Stack) → In s p → In r p → number s ≡ number r → s ≡ r
-  known-by-number taken held [] h s r m n e = absurd m
-  known-by-number taken held (q ∷ p) h s r (inl a) (inl b) e = a ∙ sym b
-  known-by-number taken held (q ∷ p) h s r (inl a) (inr n) e = absurd (not-taken _ _ p (h .2) r n (inl (sym e ∙ ap number a)))
-  known-by-number taken held (q ∷ p) h s r (inr m) (inl b) e = absurd (not-taken _ _ p (h .2) s m (inl (e ∙ ap number b)))
-  known-by-number taken held (q ∷ p) h s r (inr m) (inr n) e = known-by-number _ _ p (h .2) s r m n e
+  known-by-number earlier loaded [] h s r m n e = absurd m
+  known-by-number earlier loaded (q ∷ p) h s r (inl a) (inl b) e = a ∙ sym b
+  known-by-number earlier loaded (q ∷ p) h s r (inl a) (inr n) e = absurd (not-earlier _ _ p (h .2) r n (inl (sym e ∙ ap number a)))
+  known-by-number earlier loaded (q ∷ p) h s r (inr m) (inl b) e = absurd (not-earlier _ _ p (h .2) s m (inl (e ∙ ap number b)))
+  known-by-number earlier loaded (q ∷ p) h s r (inr m) (inr n) e = known-by-number _ _ p (h .2) s r m n e
 
-pub in-range-sound : (m : Limits) (i : Instance) (p : List Stack) → InRange m i p → Sound i p
-in-range-sound m i p h =
+pub meets-sound : (m : Limits) (i : Instance) (p : List Stack) → FilesMeet m i p → Sound i p
+meets-sound m i p h =
     record {
       stacks = stacks-sound (h .instance) [] 0 p (h .stacks);
       known = known-by-number (m .loads) (length (i .items)) (length (i .trucks)) [] 0 p (h .stacks);

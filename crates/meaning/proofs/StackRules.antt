@@ -15,7 +15,7 @@ use Rattle.meaning.specs.Model.{Instance, Truck, Stack, Item, item, truc
 use Rattle.meaning.specs.Measures.{above, sm, plantDocksOf}
 use Rattle.meaning.specs.Rules.{itemPlaces, stackPlaces, pairPlaces, stackable, plantDockCount, consecutive, plantDocksAllowed, singlePair, orientationKept}
 use Rattle.meaning.specs.Rules.{weightAbove, topWeightWithin, itemCount, stackabilityKept, densityWithin}
-use Rattle.meaning.specs.Feasible.{SameTruck, base, Stands, ItemStacks, OneDock, TwoDocks, weightOf, StackFits, HasTwoDocks}
+use Rattle.meaning.specs.Feasible.{SameTruck, bottomItem, Stands, ItemStacks, OneDock, TwoDocks, weightOf, StackFits, HasTwoDocks}
 use Rattle.meaning.proofs.Tests.{true≢false, and-reads, or-reads, not-reads, le-reads, eq-reads, iff-trans, iff-sym, iff-both, iff-either}
 use Rattle.meaning.proofs.Lists.{NoRepeat, in-dedup, dedup-noRepeat, in-map}
 use Rattle.meaning.proofs.Orders.{order-stands, stands-order}
@@ -207,14 +207,14 @@ all-five a b c d e = (
 -- 15: an item is like the bottom item
 alike-reads : (i : Instance) (s : Stack) (a : Item)
     → (stackable i s a ≡ true)
-    ↔ ((IU a ≡ IU (base i s)) × (IP a ≡ IP (base i s)) × (IS a ≡ IS (base i s)) × (ISM a ≡ ISM (base i s)) × (IK a ≡ IK (base i s)))
+    ↔ ((IU a ≡ IU (bottomItem i s)) × (IP a ≡ IP (bottomItem i s)) × (IS a ≡ IS (bottomItem i s)) × (ISM a ≡ ISM (bottomItem i s)) × (IK a ≡ IK (bottomItem i s)))
 alike-reads i s a = (
   (λ e. let h = five .0 e in (eqb-true _ _ (h .0), eqb-true _ _ (h .1), eqb-true _ _ (h .2), eqb-true _ _ (h .3), eqb-true _ _ (h .4))),
   (λ h. five .1 (eq-eqb _ _ (h .0), eq-eqb _ _ (h .1), eq-eqb _ _ (h .2), eq-eqb _ _ (h .3), eq-eqb _ _ (h .4))),
 )
   where
     b : Item
-    b = base i s
+    b = bottomItem i s
 
     five : (stackable i s a ≡ true)
         ↔ ((eqb (IU a) (IU b) ≡ true) × (eqb (IP a) (IP b) ≡ true) × (eqb (IS a) (IS b) ≡ true) × (eqb (ISM a) (ISM b) ≡ true) × (eqb (IK a) (IK b) ≡ true))
@@ -233,9 +233,9 @@ top-exactly i p s =
 -- 21: so is the stack's weight
 density-exactly : (i : Instance) (p : List Stack) (s : Stack)
     → (densityWithin i p s ≡ true)
-    ↔ ((weightOf i (s .load) *ℤ pos 1000000) ≤ℤ (pos (TEM (truckOf i s)) *ℤ pos (IL (base i s)) *ℤ pos (IW (base i s))))
+    ↔ ((weightOf i (s .load) *ℤ pos 1000000) ≤ℤ (pos (TEM (truckOf i s)) *ℤ pos (IL (bottomItem i s)) *ℤ pos (IW (bottomItem i s))))
 density-exactly i p s =
-    let limit = TEM (truckOf i s) * IL (base i s) * IW (base i s) in
+    let limit = TEM (truckOf i s) * IL (bottomItem i s) * IW (bottomItem i s) in
     subst (λ (z : ℤ). (densityWithin i p s ≡ true) ↔ ((z *ℤ pos 1000000) ≤ℤ pos limit)) (sym (weight-signed i (s .load)))
     (iff-trans (le-reads (sm i s * 1000000) limit) (iff-sym (le-signed (sm i s * 1000000) limit)))
 
@@ -255,7 +255,7 @@ module _ (i : Instance) (p : List Stack) (s : Stack) where
         maximal = h .3;
         dock = h .4;
         turned = turned-reads i s (item i n) .0 (turned n m);
-        notTooMany = subst (λ (z : ℕ). length (s .load) ≤ z) (sym (h .3)) (leb-true (length (s .load)) (ISM (base i s)) few);
+        notTooMany = subst (λ (z : ℕ). length (s .load) ≤ z) (sym (h .3)) (leb-true (length (s .load)) (ISM (bottomItem i s)) few);
       }
 
   stack-alike : StackFits i s → (n : ℕ) → In n (s .load) → stackable i s (item i n) ≡ true
@@ -263,7 +263,7 @@ module _ (i : Instance) (p : List Stack) (s : Stack) where
 
   -- back: the bottom item is one of them
   stack-few : SoundStack i s → StackFits i s → stackabilityKept i p s ≡ true
-  stack-few sound h = le-leb (length (s .load)) (ISM (base i s)) (h .items (getD (s .load) 0 0) (sound .some) .notTooMany)
+  stack-few sound h = le-leb (length (s .load)) (ISM (bottomItem i s)) (h .items (getD (s .load) 0 0) (sound .some) .notTooMany)
 
 -- 15, 16 and 18 to 21: each stack fits its truck
 pub stacks-exactly : (i : Instance) (p : List Stack) → Sound i p
@@ -305,7 +305,7 @@ two-exactly i p s kept = (differ, λ h. ⊎-elim (one h) (λ k. ap length (k .1 
 
 -- the test of 17, which asks for two docks of each and for one code
 pair-reads : (i : Instance) (s r : Stack)
-    → (singlePair i s r ≡ true) ↔ (plantDockCount i s ≡ 2 → plantDockCount i r ≡ 2 → IS (base i s) ≡ IS (base i r) → ⊥)
+    → (singlePair i s r ≡ true) ↔ (plantDockCount i s ≡ 2 → plantDockCount i r ≡ 2 → IS (bottomItem i s) ≡ IS (bottomItem i r) → ⊥)
 pair-reads i s r = (
   (λ e a b q. not-reads (first && second && code) .0 e (three .1 ((a, b), q))),
   (λ f. not-reads (first && second && code) .1 (λ e. let h = three .0 e in f (h .0 .0) (h .0 .1) (h .1))),
@@ -318,17 +318,17 @@ pair-reads i s r = (
     second = eqb (plantDockCount i r) 2
 
     code : Bool
-    code = eqb (IS (base i s)) (IS (base i r))
+    code = eqb (IS (bottomItem i s)) (IS (bottomItem i r))
 
-    three : ((first && second && code) ≡ true) ↔ (((plantDockCount i s ≡ 2) × (plantDockCount i r ≡ 2)) × (IS (base i s) ≡ IS (base i r)))
+    three : ((first && second && code) ≡ true) ↔ (((plantDockCount i s ≡ 2) × (plantDockCount i r ≡ 2)) × (IS (bottomItem i s) ≡ IS (bottomItem i r)))
     three =
         iff-trans (and-reads (first && second) code)
-        (iff-both (iff-trans (and-reads first second) (iff-both (eq-reads (plantDockCount i s) 2) (eq-reads (plantDockCount i r) 2))) (eq-reads (IS (base i s)) (IS (base i r))))
+        (iff-both (iff-trans (and-reads first second) (iff-both (eq-reads (plantDockCount i s) 2) (eq-reads (plantDockCount i r) 2))) (eq-reads (IS (bottomItem i s)) (IS (bottomItem i r))))
 
 -- 17: no two stacks of one code on one used truck both have two plant docks
 pub pairs-exactly : (i : Instance) (p : List Stack) → ((s : Stack) → In s p → plantDocksAllowed i p s ≡ true)
     → (pairPlaces singlePair i p ≡ [])
-    ↔ ((s r : Stack) → In s p → In r p → SameTruck s r → (number s ≡ number r → ⊥) → IS (base i s) ≡ IS (base i r) → HasTwoDocks i s → HasTwoDocks i r → ⊥)
+    ↔ ((s r : Stack) → In s p → In r p → SameTruck s r → (number s ≡ number r → ⊥) → IS (bottomItem i s) ≡ IS (bottomItem i r) → HasTwoDocks i s → HasTwoDocks i r → ⊥)
 pairs-exactly i p kept = (
   (λ e s r m n o d q h k.
       pair-reads i s r .0 (pairs-kept i p singlePair .0 e s r m n o d) (two-exactly i p s (kept s m) .1 h) (two-exactly i p r (kept r n) .1 k) q),

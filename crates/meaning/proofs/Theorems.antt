@@ -2,13 +2,13 @@
 use Rattle.meaning.specs.declared.Limits.{Limits}
 use Rattle.meaning.specs.Claims.{Theorems}
 use Rattle.meaning.proofs.Lowest.{lowest-is}
-use Rattle.meaning.proofs.Accepted.{accepted-exactly, refused-exactly}
+use Rattle.meaning.proofs.InRange.{fields-named}
 use Rattle.meaning.proofs.Ranges.{read-in-range, read-fits}
 use Rattle.meaning.proofs.Printed.{read-printed}
 use Rattle.meaning.proofs.ReadExactly.{read-exactly}
 use Rattle.meaning.proofs.Decode.{decodes}
 use Rattle.meaning.proofs.TableAfter.{table-after, read-refused}
-use Rattle.meaning.proofs.Readable.{readable-exactly}
+use Rattle.meaning.proofs.Readable.{readable-exactly, decided}
 use Rattle.meaning.proofs.Feasible.{accepted-when-feasible}
 use Rattle.meaning.proofs.AnyOrder.{order-free, any-order}
 
@@ -16,8 +16,7 @@ pub theorems : (m : Limits) → Theorems m
 theorems m =
     record {
       lowestPlace = lowest-is;
-      acceptedExactly = accepted-exactly;
-      refusedExactly = refused-exactly;
+      fieldsNamed = fields-named;
       readInRange = read-in-range m;
       readFits = read-fits m;
       readPrinted = read-printed m;
@@ -26,6 +25,7 @@ theorems m =
       decodes = decodes m;
       tableAfter = table-after m;
       readableExactly = readable-exactly m;
+      decided = decided m;
       acceptedWhenFeasible = accepted-when-feasible m;
       orderFree = order-free m;
       anyOrder = any-order m;

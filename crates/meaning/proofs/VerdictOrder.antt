@@ -10,10 +10,10 @@ use Rattle.meaning.specs.declared.Answer.{Answer}
 use Rattle.meaning.specs.Lists.{onlyIf, upFrom, between, Every}
 use Rattle.meaning.specs.Places.{place}
 use Rattle.meaning.specs.Model.{Instance, Truck, Stack, Item, truckNumbered, number, x, EM, EJcr}
-use Rattle.meaning.specs.Measures.{UsedTruck, usedBy, sameUsed, usedTrucks, stacksOn, another, weightOn, departures, stacksAt, supplierOrder, sm, lever, H}
+use Rattle.meaning.specs.Measures.{UsedTruck, usedBy, sameUsed, usedTrucks, stacksOn, another, weightOn, departures, stacksAtDeparture, supplierOrder, sm, lever, H}
 use Rattle.meaning.specs.Rules.{itemPlaces, stackPlaces, pairPlaces, truckPlaces, departurePlaces, counts, timesLoaded, notOnce}
 use Rattle.meaning.specs.Rules.{plantMatches, productCarried, supplierVisited, arrivesInWindow, docksServed, stackable, plantDocksAllowed, plantDockCount, singlePair, orientationKept, topWeightWithin, weightAbove}
-use Rattle.meaning.specs.Rules.{stackabilityKept, itemCount, densityWithin, inside, exceededSide, disjoint, braced, braces, noAmount, inLoadingOrder, withinLoadLimit, middleAxleHolds, rearAxleHolds}
+use Rattle.meaning.specs.Rules.{stackabilityKept, itemCount, densityWithin, inside, exceededSide, disjoint, braced, bracedBy, noAmount, inLoadingOrder, withinLoadLimit, middleAxleHolds, rearAxleHolds}
 use Rattle.meaning.specs.Rules.{Rule, itemRules, stackRules, placementRules, weightRules, rules}
 use Rattle.meaning.specs.Verdict.{brokenOr, firstBroken, acceptance, cost, transportCost, inventoryCost, verdictOn}
 use Rattle.meaning.proofs.Tests.{same-test}
@@ -71,9 +71,9 @@ module _ (i : Instance) (p p′ : List Stack) (h : List·Permᴰ p p′) where
   unfolding stacksOn
   stacksOn-perm u = filter-perm (λ (s : Stack). sameUsed u (usedBy s)) h
 
-  stacksAt-perm : (u : UsedTruck) (k : ℕ) → List·Permᴰ (stacksAt i p u k) (stacksAt i p′ u k)
-  unfolding stacksAt
-  stacksAt-perm u k = filter-perm (λ (s : Stack). between 1 k (supplierOrder i s)) (stacksOn-perm u)
+  stacksAtDeparture-perm : (u : UsedTruck) (k : ℕ) → List·Permᴰ (stacksAtDeparture i p u k) (stacksAtDeparture i p′ u k)
+  unfolding stacksAtDeparture
+  stacksAtDeparture-perm u k = filter-perm (λ (s : Stack). between 1 k (supplierOrder i s)) (stacksOn-perm u)
 
   timesLoaded-perm : (n : ℕ) → timesLoaded p n ≡ timesLoaded p′ n
   unfolding timesLoaded
@@ -81,7 +81,7 @@ module _ (i : Instance) (p p′ : List Stack) (h : List·Permᴰ p p′) where
 
   -- the test of rule 24 looks at the whole plan
   pub braced-perm : (s : Stack) → braced i p s ≡ braced i p′ s
-  braced-perm s = ap (λ b. eqb (x s) 0 || b) (any-perm (λ (r : Stack). another s r && braces i s r) h)
+  braced-perm s = ap (λ b. eqb (x s) 0 || b) (any-perm (bracedBy i s) h)
 
   cost-perm : cost i p ≡ cost i p′
   unfolding cost
@@ -112,7 +112,7 @@ module _ (i : Instance) (p p′ : List Stack) (h : List·Permᴰ p p′) where
   departurePlaces-same kept k =
       flatMap-same _ _ (usedTrucks p) (usedTrucks p′) (perm-same usedTrucks-perm) (λ u.
       flatMap-equal _ _ (departures i u) (departures i u) (same-refl (departures i u)) (λ n.
-      let on = stacksAt-perm u n in
+      let on = stacksAtDeparture-perm u n in
       ap₂ (λ b c. onlyIf (b && not c) (place (u .truck) (u .copy) n)) (counts-perm _ _ on) (k (truckNumbered i (u .truck)) _ _ on)))
 
   notOnce-same : Same (notOnce i p) (notOnce i p′)

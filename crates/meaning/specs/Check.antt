@@ -23,14 +23,14 @@ abbrev pub firstOfCode : Instance → ℕ → ℕ
 firstOfCode i n = orderIn (map IS (i .items)) (IS (item i n))
 
 -- two items with the same IL and IW
-abbrev pub sameBase : Item → Item → Bool
-sameBase a b = eqb (IL a) (IL b) && eqb (IW a) (IW b)
+abbrev pub sameLengthAndWidth : Item → Item → Bool
+sameLengthAndWidth a b = eqb (IL a) (IL b) && eqb (IW a) (IW b)
 
 -- (item, that one), for each item that differs
 unfoldable pub codeClashes : Instance → List Place
 unfolding flatMap upFrom orderFrom
 codeClashes i =
-    flatMap (λ n. onlyIf (not (sameBase (item i n) (item i (firstOfCode i n)))) (place n (firstOfCode i n) 0)) (upFrom 1 (length (i .items)))
+    flatMap (λ n. onlyIf (not (sameLengthAndWidth (item i n) (item i (firstOfCode i n)))) (place n (firstOfCode i n) 0)) (upFrom 1 (length (i .items)))
 
 -- ---- what two files are read as: refused by one of 2 to 8, or "readable when none of 1 to 8 arises"
 pub data Reading : Type 0 where

@@ -2,7 +2,7 @@
 use mathlib.Core.Path.{_≡_}
 use mathlib.Core.Logic.{_⊎_, _↔_}
 use mathlib.Core.Option.{Option, none, some}
-use mathlib.Core.List.{List, [], _∷_, _++_, List·Permᴰ}
+use mathlib.Core.List.{List, [], _∷_, _++_, map, List·Permᴰ}
 use Prim.Native.Nat.{ℕ, _≤_, _<_}
 use lib.ListN.{length, take, drop, replicate}
 use Rattle.meaning.specs.declared.Limits.{Limits}
@@ -10,16 +10,17 @@ use Rattle.meaning.specs.declared.Place.{Place}
 use Rattle.meaning.specs.declared.Answer.{Answer}
 use Rattle.meaning.specs.Lists.{In, Every}
 use Rattle.meaning.specs.Limits.{named}
-use Rattle.meaning.specs.Model.{Instance, Stack}
+use Rattle.meaning.specs.Model.{Instance, Truck, Stack, Item}
 use Rattle.meaning.specs.Table.{words, instanceIn, stacksIn}
 use Rattle.meaning.specs.Places.{lowest}
 use Rattle.meaning.specs.Rules.{Rule, rules}
-use Rattle.meaning.specs.Verdict.{verdictOn, refusal, acceptance, cost}
-use Rattle.meaning.specs.Check.{refused, readable, readFiles, answer, codeClashes, tableAfter}
+use Rattle.meaning.specs.Verdict.{cost}
+use Rattle.meaning.specs.Check.{refused, readable, readFiles, answer, tableAfter}
 use Rattle.meaning.specs.Feasible.{Feasible}
 use Rattle.meaning.specs.Reorder.{Reordered}
 use Rattle.meaning.specs.Print.{printedInstance, printedPlan}
-use Rattle.meaning.specs.InRange.{InRange, Fits}
+use Rattle.meaning.specs.Files.{Field, itemFields, truckFields, stackFields}
+use Rattle.meaning.specs.InRange.{InRange, NoClash, Fits}
 use Rattle.meaning.specs.Measures.{usedTrucks}
 
 -- two files that can be read, and what they say
@@ -42,24 +43,16 @@ IsLowest ps (some p) = In p ps × ((q : Place) → In q ps → Before q p → �
 abbrev pub LowestPlace : Type 0
 LowestPlace = (ps : List Place) → IsLowest ps (lowest ps)
 
--- ---- the verdict, rule by rule (proofs/Accepted: accepted-exactly, refused-exactly)
--- a rule is kept where it lists no place
-abbrev pub KeptBy : Instance → List Stack → Rule → Type 0
-KeptBy i p r = r .places i p ≡ []
+-- ---- the fields of a line (proofs/InRange: fields-named)
+-- the values that the names of some fields have, in the order of the fields
+abbrev pub values : {A : Type 0} → List (Field A) → A → List ℕ
+values fields a = map (λ f. f .value a) fields
 
--- accepted exactly when no rule lists a place, with the cost and the number of used trucks
-abbrev pub AcceptedExactly : Type 0
-AcceptedExactly =
-    (i : Instance) (p : List Stack)
-    → ((verdictOn i p .number ≡ 0) ↔ Every (KeptBy i p) rules)
-    × (Every (KeptBy i p) rules → verdictOn i p ≡ acceptance (cost i p) (length (usedTrucks p)))
-
--- otherwise the first broken rule at its lowest place
-abbrev pub RefusedExactly : Type 0
-RefusedExactly =
-    (i : Instance) (p : List Stack) (before after : List Rule) (r : Rule) (q : Place)
-    → rules ≡ before ++ r ∷ after → Every (KeptBy i p) before → lowest (r .places i p) ≡ some q
-    → verdictOn i p ≡ refusal (r .verdict) q
+-- the names in Files stand in the order of the line: their values (Model) are its entries
+pub record FieldsNamed : Type 0 where
+  pub item : (a : Item) → length a ≡ 16 → values (itemFields a) a ≡ a
+  pub truck : (t : Truck) → length (t .fields) ≡ 20 → values truckFields t ≡ t .fields
+  pub stack : (trucks : ℕ) (s : Stack) → length (s .fields) ≡ 6 → values (stackFields trucks) s ≡ s .fields
 
 -- ---- reading (proofs/Ranges: read-in-range, read-fits; proofs/Printed: read-printed)
 -- what is read has every entry in range
@@ -84,7 +77,7 @@ ReadPrinted m = (instance plan : List ℕ) (r : Readable m instance plan) → Is
 pub record Legible (m : Limits) (instance plan : List ℕ) (i : Instance) (p : List Stack) : Type 0 where
   pub printed : IsPrinted instance plan i p
   pub inRange : InRange m i p
-  pub noClash : lowest (codeClashes i) ≡ none
+  pub noClash : NoClash i
   pub instanceBytes : length instance ≤ m .bytes
   pub planBytes : length plan ≤ m .bytes
 
@@ -112,23 +105,22 @@ abbrev pub Decodes : Limits → Type 0
 Decodes m = (i : Instance) (p : List Stack) → Fits m i p → Decoded m (words m i p) i p
 
 -- ---- demand 1 on the definitions (proofs/TableAfter: table-after, read-refused)
--- the table after a check
-pub record TableKept (m : Limits) (table instance plan : List ℕ) : Type 0 where
-  -- "untouched if short"
-  pub short : length table < named m → tableAfter m table instance plan ≡ table
-  -- it has as many words as before, and "words beyond are untouched"
-  pub size : length (tableAfter m table instance plan) ≡ length table
-  pub beyond : drop (named m) (tableAfter m table instance plan) ≡ drop (named m) table
-  -- "zero in its named words if a file cannot be read"
-  pub zero : named m ≤ length table → (a : Answer) → readFiles m instance plan ≡ refused a
-      → take (named m) (tableAfter m table instance plan) ≡ replicate (named m) 0
-  -- "otherwise exactly what the files say"
-  pub filled : named m ≤ length table → (r : Readable m instance plan) → take (named m) (tableAfter m table instance plan) ≡ words m (r .says) (r .stacks)
-  pub holds : named m ≤ length table → (r : Readable m instance plan) → Decoded m (take (named m) (tableAfter m table instance plan)) (r .says) (r .stacks)
+-- a check that found the words table₀ leaves the words table
+pub record TablePromise (m : Limits) (instance plan table₀ table : List ℕ) : Type 0 where
+  -- a short table is untouched
+  pub short : length table₀ < named m → table ≡ table₀
+  -- it has as many words as before, and words beyond the named ones are untouched
+  pub size : length table ≡ length table₀
+  pub beyond : drop (named m) table ≡ drop (named m) table₀
+  -- the named words are zero if a file cannot be read
+  pub zero : named m ≤ length table₀ → (a : Answer) → readFiles m instance plan ≡ refused a → take (named m) table ≡ replicate (named m) 0
+  -- otherwise they are exactly what the files say, and hold it
+  pub filled : named m ≤ length table₀ → (r : Readable m instance plan) → take (named m) table ≡ words m (r .says) (r .stacks)
+  pub holds : named m ≤ length table₀ → (r : Readable m instance plan) → Decoded m (take (named m) table) (r .says) (r .stacks)
 
 -- this holds after every check, whatever the files and the table were
 abbrev pub TableAfter : Limits → Type 0
-TableAfter m = (table instance plan : List ℕ) → TableKept m table instance plan
+TableAfter m = (table instance plan : List ℕ) → TablePromise m instance plan table (tableAfter m table instance plan)
 
 -- files that cannot be read have one of the verdicts 2 to 8, without cost and trucks
 pub record RefusedReading (a : Answer) : Type 0 where
@@ -157,6 +149,60 @@ ReadableExactly m =
     (tableLength : ℕ) (instance plan : List ℕ)
     → ReadableInto m tableLength instance plan ↔ NoneOf1To8 (answer m tableLength instance plan .number)
 
+-- ---- the verdict, rule by rule (proofs/Readable: decided)
+-- a rule is kept where it lists no place
+abbrev pub KeptBy : Instance → List Stack → Rule → Type 0
+KeptBy i p r = r .places i p ≡ []
+
+-- an answer that accepts: "0 accepts, with places 0", the cost and the used trucks
+pub record Accepts (i : Instance) (p : List Stack) (a : Answer) : Type 0 where
+  pub number : a .number ≡ 0
+  pub first : a .first ≡ 0
+  pub second : a .second ≡ 0
+  pub third : a .third ≡ 0
+  pub cost : a .cost ≡ cost i p
+  pub trucks : a .trucks ≡ length (usedTrucks p)
+
+-- accepted exactly when no rule lists a place
+pub record AcceptedExactly (i : Instance) (p : List Stack) (a : Answer) : Type 0 where
+  pub exactly : (a .number ≡ 0) ↔ Every (KeptBy i p) rules
+  pub accepts : Every (KeptBy i p) rules → Accepts i p a
+
+-- the first of some rules that lists a place, and the lowest of its places
+pub record FirstBroken (rs : List Rule) (i : Instance) (p : List Stack) : Type 0 where
+  pub before : List Rule
+  pub broken : Rule
+  pub after : List Rule
+  pub place : Place
+  pub order : rs ≡ before ++ broken ∷ after
+  pub kept : Every (KeptBy i p) before
+  pub lowest : IsLowest (broken .places i p) (some place)
+
+-- an answer that refuses by such a rule: its number and its lowest place; "A refusal has cost and trucks 0"
+pub record Refuses {i : Instance} {p : List Stack} (f : FirstBroken rules i p) (a : Answer) : Type 0 where
+  pub number : a .number ≡ f .broken .verdict
+  pub first : a .first ≡ f .place .first
+  pub second : a .second ≡ f .place .second
+  pub third : a .third ≡ f .place .third
+  pub cost : a .cost ≡ 0
+  pub trucks : a .trucks ≡ 0
+
+-- otherwise some rule is the first that is broken, and it refuses
+pub record RefusedExactly (i : Instance) (p : List Stack) (a : Answer) : Type 0 where
+  pub broken : (a .number ≡ 0 → ⊥) → FirstBroken rules i p
+  pub refuses : (f : FirstBroken rules i p) → Refuses f a
+
+-- demand 2: the answer to a readable plan is decided by the rules alone
+pub record DecidedBy (i : Instance) (p : List Stack) (a : Answer) : Type 0 where
+  pub accepted : AcceptedExactly i p a
+  pub refused : RefusedExactly i p a
+
+-- this holds of every readable plan
+abbrev pub Decided : Limits → Type 0
+Decided m =
+    (tableLength : ℕ) (instance plan : List ℕ) (r : ReadableInto m tableLength instance plan)
+    → DecidedBy (r .files .says) (r .files .stacks) (answer m tableLength instance plan)
+
 -- ---- demand 3 (proofs/Feasible: accepted-when-feasible; proofs/AnyOrder: order-free, any-order)
 -- a readable plan is accepted exactly when its picture holds
 abbrev pub AcceptedWhenFeasible : Limits → Type 0
@@ -184,8 +230,7 @@ AnyOrder m =
 -- ---- all of them, for limits m (proofs/Theorems: theorems)
 pub record Theorems (m : Limits) : Type 0 where
   pub lowestPlace : LowestPlace
-  pub acceptedExactly : AcceptedExactly
-  pub refusedExactly : RefusedExactly
+  pub fieldsNamed : FieldsNamed
   pub readInRange : ReadInRange m
   pub readFits : ReadFits m
   pub readPrinted : ReadPrinted m
@@ -194,6 +239,7 @@ pub record Theorems (m : Limits) : Type 0 where
   pub decodes : Decodes m
   pub tableAfter : TableAfter m
   pub readableExactly : ReadableExactly m
+  pub decided : Decided m
   pub acceptedWhenFeasible : AcceptedWhenFeasible m
   pub orderFree : OrderFree m
   pub anyOrder : AnyOrder m

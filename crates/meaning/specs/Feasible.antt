@@ -1,5 +1,5 @@
--- Document 01, "The picture of demand 3": a feasible load. It is worked out from what the two files say (Model) and from nothing that the
--- rules use: no test of theirs, no list of used trucks or departures, no measure. Sums and differences of measures are in signed whole numbers.
+-- Document 01, "The picture of demand 3": a feasible load. With the rules it shares what the two files say (Model) and the vocabulary of
+-- lists (Lists). What the rules measure, test and list (Measures, Rules) is not used: it is said here a second time, in signed whole numbers.
 use mathlib.Core.Path.{_≡_}
 use mathlib.Core.Bool.{Bool, true, cond, _&&_}
 use mathlib.Core.Logic.{_⊎_}
@@ -21,8 +21,8 @@ pub record SameTruck (s r : Stack) : Type 0 where
   pub copy : copy s ≡ copy r
 
 -- the item at the bottom of a stack
-abbrev pub base : Instance → Stack → Item
-base i s = item i (getD (s .load) 0 0)
+abbrev pub bottomItem : Instance → Stack → Item
+bottomItem i s = item i (getD (s .load) 0 0)
 
 -- n stands at place k of a list, from 1: its loading order there
 pub record Stands (l : List ℕ) (n k : ℕ) : Type 0 where
@@ -74,11 +74,11 @@ pub record ItemFits (i : Instance) (s : Stack) (n : ℕ) : Type 0 where
 -- item n of stack s
 pub record ItemStacks (i : Instance) (s : Stack) (n : ℕ) : Type 0 where
   -- 15: it is like the bottom item
-  pub supplier : IU (item i n) ≡ IU (base i s)
-  pub plant : IP (item i n) ≡ IP (base i s)
-  pub code : IS (item i n) ≡ IS (base i s)
-  pub maximal : ISM (item i n) ≡ ISM (base i s)
-  pub dock : IK (item i n) ≡ IK (base i s)
+  pub supplier : IU (item i n) ≡ IU (bottomItem i s)
+  pub plant : IP (item i n) ≡ IP (bottomItem i s)
+  pub code : IS (item i n) ≡ IS (bottomItem i s)
+  pub maximal : ISM (item i n) ≡ ISM (bottomItem i s)
+  pub dock : IK (item i n) ≡ IK (bottomItem i s)
   -- 18: it has no forced orientation, or the stack has it
   pub turned : (IO (item i n) ≡ 0) ⊎ (IO (item i n) ≡ orientation s)
   -- 20: no more items are in the stack than it allows
@@ -117,7 +117,7 @@ pub record StackFits (i : Instance) (s : Stack) : Type 0 where
   -- 19: the items above the bottom item weigh at most TMM
   pub topWeight : weightOf i (drop 1 (s .load)) ≤ℤ pos (TMM (truckOf i s))
   -- 21: sm × 1000000 is at most TEM × sl × sw
-  pub density : (weightOf i (s .load) *ℤ pos 1000000) ≤ℤ (pos (TEM (truckOf i s)) *ℤ pos (IL (base i s)) *ℤ pos (IW (base i s)))
+  pub density : (weightOf i (s .load) *ℤ pos 1000000) ≤ℤ (pos (TEM (truckOf i s)) *ℤ pos (IL (bottomItem i s)) *ℤ pos (IW (bottomItem i s)))
 
 -- ---- the height of a stack: "the sum of IH less the nesting heights of all but the bottom item"
 abbrev pub heightOf : Instance → Stack → ℤ
@@ -134,17 +134,17 @@ onTruckOf s r = eqb (truck s) (truck r) && eqb (copy s) (copy r)
 -- ---- loading order P4: the three cases in which s must have x no greater than r's, for two stacks of one used truck
 pub data MustPrecede (i : Instance) (s r : Stack) : Type 0 where
   -- (1) its supplier's order is smaller
-  bySupplier : Earlier (truckOf i s .suppliers) (IU (base i s)) (IU (base i r)) → MustPrecede i s r
+  bySupplier : Earlier (truckOf i s .suppliers) (IU (bottomItem i s)) (IU (bottomItem i r)) → MustPrecede i s r
   -- (2) same supplier, smaller supplier dock order
-  byDock : (k : ℕ) → IU (base i s) ≡ IU (base i r) → Stands (truckOf i s .suppliers) (IU (base i s)) k
-      → Earlier (getD (truckOf i s .docks) (k - 1) []) (IK (base i s)) (IK (base i r)) → MustPrecede i s r
+  byDock : (k : ℕ) → IU (bottomItem i s) ≡ IU (bottomItem i r) → Stands (truckOf i s .suppliers) (IU (bottomItem i s)) k
+      → Earlier (getD (truckOf i s .docks) (k - 1) []) (IK (bottomItem i s)) (IK (bottomItem i r)) → MustPrecede i s r
   -- (3) both the same, every plant dock order of s at most every one of r, and not also the reverse
-  byPlantDock : IU (base i s) ≡ IU (base i r) → IK (base i s) ≡ IK (base i r)
+  byPlantDock : IU (bottomItem i s) ≡ IU (bottomItem i r) → IK (bottomItem i s) ≡ IK (bottomItem i r)
       → ((n m : ℕ) → In n (s .load) → In m (r .load) → NotLater (truckOf i s .plantDocks) (IG (item i n)) (IG (item i m)))
       → (((n m : ℕ) → In n (s .load) → In m (r .load) → NotLater (truckOf i s .plantDocks) (IG (item i m)) (IG (item i n))) → ⊥)
       → MustPrecede i s r
 
--- ---- part 1, rules: "the item and stack rules, each stack's height at most TH, the load limit W1, the loading order P4"
+-- ---- part 1, rules: the item and stack rules, "each stack's height at most TH, the load limit W1, the loading order P4"
 pub record RulesHold (i : Instance) (p : List Stack) : Type 0 where
   -- 9: each item stands once among the load entries of the whole plan
   pub once : (n : ℕ) → 1 ≤ n → n ≤ length (i .items) → Once n (flatMap (λ (s : Stack). s .load) p)
@@ -153,7 +153,7 @@ pub record RulesHold (i : Instance) (p : List Stack) : Type 0 where
   -- 15, 16 and 18 to 21, for each stack
   pub stacks : (s : Stack) → In s p → StackFits i s
   -- 17: two stacks of one code on one used truck do not both have two plant docks
-  pub singlePair : (s r : Stack) → In s p → In r p → SameTruck s r → (number s ≡ number r → ⊥) → IS (base i s) ≡ IS (base i r)
+  pub singlePair : (s r : Stack) → In s p → In r p → SameTruck s r → (number s ≡ number r → ⊥) → IS (bottomItem i s) ≡ IS (bottomItem i r)
       → HasTwoDocks i s → HasTwoDocks i r → ⊥
   -- "each stack's height at most TH"
   pub heights : (s : Stack) → In s p → heightOf i s ≤ℤ pos (TH (truckOf i s))
@@ -169,13 +169,13 @@ turnedBy s a b = getD (a ∷ b ∷ []) (orientation s - 1) 0
 
 -- where a stack ends along the trailer
 abbrev pub endX : Instance → Stack → ℕ
-endX i s = x s + turnedBy s (IL (base i s)) (IW (base i s))
+endX i s = x s + turnedBy s (IL (bottomItem i s)) (IW (bottomItem i s))
 
 -- where it ends across the trailer
 abbrev pub endY : Instance → Stack → ℕ
-endY i s = y s + turnedBy s (IW (base i s)) (IL (base i s))
+endY i s = y s + turnedBy s (IW (bottomItem i s)) (IL (bottomItem i s))
 
--- "A square is a pair u, v, both from 0. It lies under a stack if x ≤ u < xe and y ≤ v < ye"
+-- "a square is a pair u, v, both from 0. It lies under a stack if x ≤ u < xe and y ≤ v < ye"
 pub record Under (i : Instance) (s : Stack) (u v : ℕ) : Type 0 where
   pub fromX : x s ≤ u
   pub beforeXe : u < endX i s
@@ -195,7 +195,7 @@ pub record Contact (i : Instance) (s r : Stack) : Type 0 where
   pub ofFirst : (y s ≤ v) × (v ≤ endY i s)
   pub ofNext : (y r ≤ v) × (v ≤ endY i r)
 
--- "A chain is a list of stacks of one used truck. Each next one has its xe at the x of the one before and is in contact with it; the last has x = 0"
+-- "A chain is a list of stacks of one used truck. Each next one has its xe at the x of the one before and is in contact with it as in P3; the last has x = 0"
 abbrev pub Chain : Instance → List Stack → List Stack → Type 0
 Chain i p [] = ⊥
 Chain i p (s ∷ []) = In s p × (x s ≡ 0)
@@ -212,7 +212,7 @@ toRear i t s = weightOf i (s .load) *ℤ (pos (x s) +ℤ pos (endX i s) -ℤ pos
 
 -- stack r is on the used truck of s at departure k: its supplier is one of the first k of that truck
 abbrev pub onAt : Instance → Stack → ℕ → Stack → Bool
-onAt i s k r = onTruckOf s r && any (eqb (IU (base i r))) (take k (truckOf i s .suppliers))
+onAt i s k r = onTruckOf s r && any (eqb (IU (bottomItem i r))) (take k (truckOf i s .suppliers))
 
 -- "The trailer brings 2 × EM × EJcr × CJfh and 2 × EM × (EJhr − EJcr). The tractor brings 2 × EJhr × CM × CJfc to the middle only.
 -- The sums are at most 2 × EJhr × CJfm × EMmm and 2 × EJhr × EMmr"

@@ -14,6 +14,7 @@ pub mod BadLine
 pub mod Feasible
 pub mod Reorder
 pub mod Print
+pub mod Meets
 pub mod InRange
 pub mod Claims
 pub mod Example

@@ -2,7 +2,7 @@
 use Prim.Native.Nat.{ℕ, _+_, _*_}
 use Rattle.meaning.specs.declared.Limits.{Limits}
 
--- "items= (1..256), trucks= (1..16), stacks= (0..256), at most 256 entries, at most 65,535 bytes"
+-- "items= (1..256)", "trucks= (1..16)", "stacks= (0..256)", "at most 256 entries", "at most 65,535 bytes"
 abbrev pub small : Limits
 small = record { items = 256; trucks = 16; stacks = 256; loads = 256; bytes = 65535 }
 
@@ -14,7 +14,7 @@ itemsAt = 16
 abbrev pub trucksAt : Limits → ℕ
 trucksAt m = itemsAt + 16 * m .items
 
--- "From 6672: stacks, 8 each"
+-- "From 6672: stacks in file order, 8 each"
 abbrev pub stacksAt : Limits → ℕ
 stacksAt m = trucksAt m + 160 * m .trucks
 

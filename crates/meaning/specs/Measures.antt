@@ -120,9 +120,9 @@ abbrev pub departures : Instance → UsedTruck → List ℕ
 departures i u = upFrom 1 (length (truckNumbered i (u .truck) .suppliers))
 
 -- the stacks that are on at departure k
-unfoldable pub stacksAt : Instance → List Stack → UsedTruck → ℕ → List Stack
+unfoldable pub stacksAtDeparture : Instance → List Stack → UsedTruck → ℕ → List Stack
 unfolding filter stacksOn orderFrom
-stacksAt i p u k = filter (λ (s : Stack). between 1 k (supplierOrder i s)) (stacksOn p u)
+stacksAtDeparture i p u k = filter (λ (s : Stack). between 1 k (supplierOrder i s)) (stacksOn p u)
 
 -- "sm × (2A − x − xe)", with "A = EJeh + EJhr"; negative where the stack's middle lies behind the rear axle
 unfoldable pub lever : Instance → Truck → Stack → ℤ

@@ -1,5 +1,5 @@
--- Document 01: "Putting a plan's stacks in another order moves each stack= line together with its load= line. The stacks= line .. stays."
--- This is said of the bytes of the plan.
+-- Document 01: "Putting a plan's stacks in another order moves each stack= line together with its load= line. The stacks= line, the instance
+-- and the table's length stay." This is said of the bytes of the plan.
 use mathlib.Core.Path.{_≡_}
 use mathlib.Core.Bool.{false}
 use mathlib.Core.List.{List, [], _∷_, _++_, flatMap, List·Permᴰ}

@@ -13,7 +13,7 @@ use Rattle.meaning.specs.Places.{place}
 use Rattle.meaning.specs.Model.{Instance, Truck, Stack, Item, item, truckNumbered, truckOf, number, truck, copy, x, y, orientation}
 use Rattle.meaning.specs.Model.{IS, ISM, IR, IO, IDE, IDL, IP, IU, IK, TL, TW, TMm, TP, TDA, TMM, TF, TEM, CM, CJfm, CJfc, CJfh, EM, EJhr, EMmr, EMmm}
 use Rattle.meaning.specs.Measures.{bottom, above, sl, sw, xe, ye, height, heightLimit, weight, sm, supplierOrder, supplierDockOrder, plantDockOrder, plantDocksOf}
-use Rattle.meaning.specs.Measures.{UsedTruck, another, usedTrucks, stacksOn, weightOn, departures, stacksAt, H}
+use Rattle.meaning.specs.Measures.{UsedTruck, another, usedTrucks, stacksOn, weightOn, departures, stacksAtDeparture, H}
 
 -- ---- the places where a test fails
 -- (stack, item), over the items of each stack
@@ -45,11 +45,11 @@ counts (s ∷ on) = true
 
 -- (truck, copy, k), over the departures of each used truck that count
 unfoldable pub departurePlaces : (Instance → Truck → List Stack → Bool) → Instance → List Stack → List Place
-unfolding flatMap upFrom usedTrucks stacksAt
+unfolding flatMap upFrom usedTrucks stacksAtDeparture
 departurePlaces kept i p =
     flatMap (λ (u : UsedTruck).
     flatMap (λ k.
-    let on = stacksAt i p u k in
+    let on = stacksAtDeparture i p u k in
     onlyIf (counts on && not (kept i (truckNumbered i (u .truck)) on)) (place (u .truck) (u .copy) k))
     (departures i u)) (usedTrucks p)
 
@@ -159,13 +159,17 @@ exceededSide i s = cond (not (withinLength i s)) 1 (cond (not (withinWidth i s))
 abbrev pub disjoint : Instance → Stack → Stack → Bool
 disjoint i s r = leb (xe i s) (x r) || leb (xe i r) (x s) || leb (ye i s) (y r) || leb (ye i r) (y s)
 
--- P3: r ends at the x of s, and their closed y ranges share a point; "A corner is enough"
-abbrev pub braces : Instance → Stack → Stack → Bool
-braces i s r = eqb (xe i r) (x s) && leb (y s) (ye i r) && leb (y r) (ye i s)
+-- P3: s is in contact with r, which ends at the x of s; their closed y ranges share a point: "A corner is enough"
+abbrev pub inContact : Instance → Stack → Stack → Bool
+inContact i s r = eqb (xe i r) (x s) && leb (y s) (ye i r) && leb (y r) (ye i s)
 
--- 24 unbraced, P3: a stack with x > 0 has another on its used truck that holds it; (stack)
+-- s is braced by r: another stack on its used truck, in contact with it
+abbrev pub bracedBy : Instance → Stack → Stack → Bool
+bracedBy i s r = another s r && inContact i s r
+
+-- 24 unbraced, P3: a stack with x > 0 is braced by some stack; (stack)
 abbrev pub braced : Instance → List Stack → Stack → Bool
-braced i p s = eqb (x s) 0 || any (λ (r : Stack). another s r && braces i s r) p
+braced i p s = eqb (x s) 0 || any (bracedBy i s) p
 
 -- no second place
 abbrev pub noAmount : Instance → Stack → ℕ

@@ -74,21 +74,21 @@ abbrev pub loadCount : Limits → List ℕ → ℕ → ℕ
 loadCount m t s = getD t (stackPlace m s + 7) 0
 
 -- ---- the model that words hold
--- of each row as many words as its count says
-unfoldable pub cutRows : List ℕ → List (List ℕ) → List (List ℕ)
-cutRows [] rows = []
-cutRows (n ∷ counts) [] = []
-cutRows (n ∷ counts) (row ∷ rows) = take n row ∷ cutRows counts rows
+-- of each list as many words as its count says
+unfoldable pub cutLists : List ℕ → List (List ℕ) → List (List ℕ)
+cutLists [] lists = []
+cutLists (n ∷ counts) [] = []
+cutLists (n ∷ counts) (l ∷ lists) = take n l ∷ cutLists counts lists
 
 -- the truck of 160 words
 unfoldable pub truckIn : List ℕ → Truck
-unfolding cutRows chunks
+unfolding cutLists chunks
 truckIn t =
     record {
       fields = take 20 t;
       products = take (getD t 20 0) (drop 21 t);
       suppliers = take (getD t 53 0) (drop 54 t);
-      docks = cutRows (take (getD t 53 0) (drop 62 t)) (chunks 8 8 (drop 70 t));
+      docks = cutLists (take (getD t 53 0) (drop 62 t)) (chunks 8 8 (drop 70 t));
       plantDocks = take (getD t 134 0) (drop 135 t);
     }
 
@@ -106,7 +106,7 @@ instanceIn m t =
 
 -- the stack of eight words, whose load is a run of the loads
 unfoldable pub stackIn : List ℕ → List ℕ → Stack
-stackIn loads row = record { fields = take 6 row; load = take (getD row 7 0) (drop (getD row 6 0) loads) }
+stackIn loads eight = record { fields = take 6 eight; load = take (getD eight 7 0) (drop (getD eight 6 0) loads) }
 
 -- the stacks of a table
 unfoldable pub stacksIn : Limits → List ℕ → List Stack

@@ -57,7 +57,7 @@ numbers [] = some []
 numbers (part ∷ parts) = andNumbers (number part) (numbers parts)
 
 -- ---- "A line's value is the part of the line after its equals sign"
--- what follows the key; "the key and its equals sign must stand byte by byte", else none
+-- what follows the key: "The key and its equals sign must stand byte by byte", else none
 unfoldable pub valueAfter : List ℕ → List ℕ → Option (List ℕ)
 valueAfter [] line = some line
 valueAfter (k ∷ key) [] = none

@@ -28,11 +28,11 @@ unfoldable pub brokenOr : ℕ → Option Place → Answer → Answer
 brokenOr n none later = later
 brokenOr n (some q) later = refusal n q
 
--- the answer of the first rule that is broken; `kept` is the answer where none is
+-- the answer of the first rule that is broken; `accepted` is the answer where none is
 unfoldable pub firstBroken : List Rule → Instance → List Stack → Answer → Answer
 unfolding brokenOr lowest
-firstBroken [] i p kept = kept
-firstBroken (r ∷ rs) i p kept = let later = firstBroken rs i p kept in brokenOr (r .verdict) (lowest (r .places i p)) later
+firstBroken [] i p accepted = accepted
+firstBroken (r ∷ rs) i p accepted = let later = firstBroken rs i p accepted in brokenOr (r .verdict) (lowest (r .places i p)) later
 
 -- ---- "Cost, in thousandths"
 -- "TC × 1000, or TC × (1000 + αE) for an extra"
@@ -48,7 +48,7 @@ unfoldable pub inventoryCost : Instance → Stack → ℕ
 unfolding sum
 inventoryCost i s = sum (λ n. IC (item i n) * daysEarly i s (item i n)) (s .load)
 
--- "αT × (sum over used trucks) + 1000 × αI × sum over items"
+-- "αT × (sum over used trucks of TC × 1000, or TC × (1000 + αE) for an extra) + 1000 × αI × sum of IC × (IDL − TDA) over items"
 unfoldable pub cost : Instance → List Stack → ℕ
 unfolding sum usedTrucks inventoryCost
 cost i p = i .αT * sum (transportCost i) (usedTrucks p) + 1000 * i .αI * sum (inventoryCost i) p

@@ -1,4 +1,4 @@
--- 24 unbraced: the stacks of one used truck that are asked whether they hold another, and the search for one that is not held.
+-- 24 unbraced: the stacks of one used truck that are asked whether they brace another, and the search for one that is not braced.
 use mathlib.Core.Path.{_≡_, refl, sym, ap, ap₂, subst, _∙_}
 use mathlib.Core.Logic.{inl, inr}
 use mathlib.Core.Bool.{Bool, true, false, not, _&&_}
@@ -12,7 +12,7 @@ use Rattle.meaning.specs.Lists.{In, any}
 use Rattle.meaning.specs.Model.{Instance, Stack, number, x}
 use Rattle.meaning.specs.Measures.{another}
 use Rattle.meaning.specs.Places.{place}
-use Rattle.meaning.specs.Rules.{stackPlaces, braces, braced, noAmount}
+use Rattle.meaning.specs.Rules.{stackPlaces, braced, bracedBy, noAmount}
 use Rattle.meaning.specs.Claims.{Before}
 use Rattle.meaning.proofs.Tests.{true≢false, or-reads, or-false, fails}
 use Rattle.meaning.proofs.Lists.{in-onlyIf, in-flatMap, any-reads}
@@ -23,17 +23,13 @@ use Rattle.views.specs.declared.Footprint.{Footprint}
 use Rattle.views.specs.Views.{footprintOf}
 use Rattle.visits.specs.Visits.{visitAt, block, OneTruck}
 use Rattle.visits.proofs.UsedTrucks.{block-place}
-use Rattle.pairrules.specs.PairRules.{touches}
+use Rattle.pairrules.specs.PairRules.{footprintsInContact}
 use Rattle.pairrules.proofs.Blocks.{Inside, Upto, upto-start, upto-more, block-has, place-lower, another-at}
 
 -- ---- the stack at place k
--- another stack holds it
-abbrev held : Instance → Stack → Stack → Bool
-held i s r = another s r && braces i s r
-
--- no stack at a place before b holds it
-pub record Unheld (i : Instance) (p : List Stack) (start end k b : ℕ) : Type 0 where
-  pub asked : Upto (λ j. held i (visitAt p k) (visitAt p j) ≡ false) start end b
+-- no stack at a place before b braces it
+pub record NoBrace (i : Instance) (p : List Stack) (start end k b : ℕ) : Type 0 where
+  pub asked : Upto (λ j. bracedBy i (visitAt p k) (visitAt p j) ≡ false) start end b
 
 ground-x : (i : Instance) (s : Stack) {ground : Footprint} → ground ≡ footprintOf i s → ground .x ≡ x s
 ground-x i s e = ap (λ (g : Footprint). g .x) e
@@ -44,36 +40,36 @@ module _ (i : Instance) {p : List Stack} {start end k : ℕ} (one : OneTruck p s
   at-front h = let s = visitAt p k in rw (eq-eqb (x s) 0 (sym (ground-x i s ek) ∙ h)) refl
 
   module _ {b : ℕ} (there : Inside start end b) {other : Footprint} (eb : other ≡ footprintOf i (visitAt p b))
-      {touched : Bool} (t : touched ≡ touches ground other) where
-    same-held : (not (eqb b k) && touched) ≡ held i (visitAt p k) (visitAt p b)
-    same-held = ap₂ _&&_ (sym (another-at one k b inside there)) (t ∙ ap₂ touches ek eb)
+      {touched : Bool} (t : touched ≡ footprintsInContact ground other) where
+    same-braced : (not (eqb b k) && touched) ≡ bracedBy i (visitAt p k) (visitAt p b)
+    same-braced = ap₂ _&&_ (sym (another-at one k b inside there)) (t ∙ ap₂ footprintsInContact ek eb)
 
-    pub held-found : (not (eqb b k) && touched) ≡ true → true ≡ braced i (block p start end) (visitAt p k)
-    held-found e =
+    pub brace-found : (not (eqb b k) && touched) ≡ true → true ≡ braced i (block p start end) (visitAt p k)
+    brace-found e =
         let s = visitAt p k in
-        sym (or-reads (eqb (x s) 0) (any (held i s) (block p start end)) .1
-        (inr (any-reads (held i s) (block p start end) .1 (visitAt p b, block-has one b there, sym same-held ∙ e))))
+        sym (or-reads (eqb (x s) 0) (any (bracedBy i s) (block p start end)) .1
+        (inr (any-reads (bracedBy i s) (block p start end) .1 (visitAt p b, block-has one b there, sym same-braced ∙ e))))
 
 module _ {i : Instance} {p : List Stack} {start end k : ℕ} (one : OneTruck p start end) where
-  pub unheld-start : Unheld i p start end k start
-  unheld-start = record { asked = upto-start (omega (arith, one .some)) }
+  pub no-brace-start : NoBrace i p start end k start
+  no-brace-start = record { asked = upto-start (omega (arith, one .some)) }
 
-  module _ {b : ℕ} (h : Unheld i p start end k b) {ground : Footprint} (ek : ground ≡ footprintOf i (visitAt p k)) where
-    pub unheld-more : Inside start end k → b < end → {other : Footprint} → other ≡ footprintOf i (visitAt p b)
-        → {touched : Bool} → touched ≡ touches ground other → (not (eqb b k) && touched) ≡ false → Unheld i p start end k (b + 1)
-    unheld-more inside up eb t e = record { asked = upto-more (h .asked) up (sym (same-held i one inside ek (h .asked .from, up) eb t) ∙ e) }
+  module _ {b : ℕ} (h : NoBrace i p start end k b) {ground : Footprint} (ek : ground ≡ footprintOf i (visitAt p k)) where
+    pub no-brace-more : Inside start end k → b < end → {other : Footprint} → other ≡ footprintOf i (visitAt p b)
+        → {touched : Bool} → touched ≡ footprintsInContact ground other → (not (eqb b k) && touched) ≡ false → NoBrace i p start end k (b + 1)
+    no-brace-more inside up eb t e = record { asked = upto-more (h .asked) up (sym (same-braced i one inside ek (h .asked .from, up) eb t) ∙ e) }
 
     pub not-braced : (ground .x ≡ 0 → ⊥) → end ≤ b → false ≡ braced i (block p start end) (visitAt p k)
     not-braced d last =
         let s = visitAt p k in
         let behind : eqb (x s) 0 ≡ false = ne-eqb (x s) 0 (λ q. d (ground-x i s ek ∙ q)) in
-        let alone : any (held i s) (block p start end) ≡ false =
-        fails (any (held i s) (block p start end)) (λ e.
-        let w = any-reads (held i s) (block p start end) .0 e in
+        let alone : any (bracedBy i s) (block p start end) ≡ false =
+        fails (any (bracedBy i s) (block p start end)) (λ e.
+        let w = any-reads (bracedBy i s) (block p start end) .0 e in
         let v = block-place one (w .0) (w .1) in
-        true≢false (sym (w .2) ∙ ap (held i s) (v .3) ∙ h .asked .each (v .0) (v .1) (omega arith)))
+        true≢false (sym (w .2) ∙ ap (bracedBy i s) (v .3) ∙ h .asked .each (v .0) (v .1) (omega arith)))
         in
-        sym (or-false (eqb (x s) 0) (any (held i s) (block p start end)) .1 (behind, alone))
+        sym (or-false (eqb (x s) 0) (any (bracedBy i s) (block p start end)) .1 (behind, alone))
 
 -- ---- all of them
 -- each stack at a place before a is held
@@ -107,7 +103,7 @@ module _ {i : Instance} {p : List Stack} {start end : ℕ} (one : OneTruck p sta
       pub braced-more : not holds ≡ false → BracedUpto i p start end (a + 1)
       braced-more e = record { asked = upto-more (h .asked) up (sym asks ∙ not-false holds e) }
 
-      -- the first stack that is not held is the lowest
+      -- the first stack that is not braced is the lowest
       pub unbraced-found : not holds ≡ true → At (place (number (visitAt p a)) 0 0) ≡ lowestIn (stackPlaces braced noAmount i (block p start end))
       unbraced-found e =
           found-first _ _ (unbraced-listed i one a (h .asked .from, up) (sym asks ∙ not-true holds e)) (λ q m before.

@@ -16,12 +16,12 @@ pairTest Overlap i s r = disjoint i s r
 pairTest Order i s r = inLoadingOrder i s r
 
 -- P2 on the ground that two stacks take
-abbrev pub apart : Footprint → Footprint → Bool
-apart a b = leb (a .xe) (b .x) || leb (b .xe) (a .x) || leb (a .ye) (b .y) || leb (b .ye) (a .y)
+abbrev pub disjointFootprints : Footprint → Footprint → Bool
+disjointFootprints a b = leb (a .xe) (b .x) || leb (b .xe) (a .x) || leb (a .ye) (b .y) || leb (b .ye) (a .y)
 
 -- P3 on the ground that two stacks take: b ends at the x of a, and their closed y ranges share a point
-abbrev pub touches : Footprint → Footprint → Bool
-touches a b = eqb (b .xe) (a .x) && leb (a .y) (b .ye) && leb (b .y) (a .ye)
+abbrev pub footprintsInContact : Footprint → Footprint → Bool
+footprintsInContact a b = eqb (b .xe) (a .x) && leb (a .y) (b .ye) && leb (b .y) (a .ye)
 
 -- P4 on the ranks of two stacks: every plant dock order is at most another's where the highest is at most the lowest
 abbrev pub ranksBefore : Rank → Rank → Bool

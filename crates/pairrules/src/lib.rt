@@ -7,7 +7,7 @@ ghost use Rattle.meaning.specs.Table.{instanceIn, stacksIn};
 ghost use Rattle.meaning.specs.Rules.{pairPlaces, stackPlaces, singlePair, inLoadingOrder, braced, noAmount};
 ghost use Rattle.search.specs.Lowest.{lowestIn};
 ghost use Rattle.visits.specs.Visits.{visitAt, block, HoldsRows, OneTruck};
-ghost use Rattle.pairrules.specs.PairRules.{pairTest, apart, touches, ranksBefore, partnersFrom};
+ghost use Rattle.pairrules.specs.PairRules.{pairTest, disjointFootprints, footprintsInContact, ranksBefore, partnersFrom};
 use meaning::Limits;
 use meaning::Place;
 use search::Found;
@@ -46,9 +46,9 @@ fn is_single_pair(t: &[u32], limits: Limits, rows: &[u32], a: usize, b: usize) -
     code != bottom_field(t, limits, stack_at(t, limits, rows, b), IS)
 }
 
-// 23 overlap, P2: two stacks lie apart along the trailer or across it.
-pub fn is_apart(a: Footprint, b: Footprint) -> bool
-    ensures { λ r. ⌜ r ≡ apart a b ⌝ }
+// 23 overlap, P2: two stacks are disjoint along the trailer or across it.
+pub fn disjoint(a: Footprint, b: Footprint) -> bool
+    ensures { λ r. ⌜ r ≡ disjointFootprints a b ⌝ }
 {
     (((a.xe <= b.x) | (b.xe <= a.x)) | (a.ye <= b.y)) | (b.ye <= a.y)
 }
@@ -85,7 +85,7 @@ fn pair_kept(rule: PairRule, t: &[u32], limits: Limits, rows: &[u32], a: usize, 
 {
     match rule {
         PairRule::SecondPair => is_single_pair(t, limits, rows, a, b),
-        PairRule::Overlap => is_apart(
+        PairRule::Overlap => disjoint(
             footprint_at(t, limits, rows, a),
             footprint_at(t, limits, rows, b),
         ),
@@ -142,14 +142,14 @@ pub fn first_pair(
     found
 }
 
-// 24 unbraced, P3: whether the second stack ends where the first begins and touches it; a corner is enough.
-pub fn braces(a: Footprint, b: Footprint) -> bool
-    ensures { λ r. ⌜ r ≡ touches a b ⌝ }
+// 24 unbraced, P3: whether the second stack ends where the first begins, in contact with it; a corner is enough.
+pub fn in_contact(a: Footprint, b: Footprint) -> bool
+    ensures { λ r. ⌜ r ≡ footprintsInContact a b ⌝ }
 {
     ((b.xe == a.x) & (a.y <= b.ye)) & (b.y <= a.ye)
 }
 
-// Whether the stack at place k stands at the front wall or is held by another one.
+// Whether the stack at place k stands at the front wall or is braced by another one.
 fn is_braced(t: &[u32], limits: Limits, rows: &[u32], start: usize, end: usize, k: usize) -> bool
     requires { ⌜ HoldsRows limits (now t) (now rows) × OneTruck (stacksIn limits (now t)) start end × (start ≤ k) × (k < end) ⌝ }
     ensures { λ r. ⌜ r ≡ braced (instanceIn limits (now (t .entry))) (block (stacksIn limits (now (t .entry))) start end)
@@ -161,7 +161,7 @@ fn is_braced(t: &[u32], limits: Limits, rows: &[u32], start: usize, end: usize, 
     }
     let mut b = start;
     while b < end {
-        let touched = braces(ground, footprint_at(t, limits, rows, b));
+        let touched = in_contact(ground, footprint_at(t, limits, rows, b));
         if (b != k) & touched {
             return true;
         }
@@ -170,7 +170,7 @@ fn is_braced(t: &[u32], limits: Limits, rows: &[u32], start: usize, end: usize, 
     false
 }
 
-// 24 unbraced, P3: the stack with the lowest number that is not held.
+// 24 unbraced, P3: the stack with the lowest number that is not braced.
 pub fn first_unbraced(t: &[u32], limits: Limits, rows: &[u32], start: usize, end: usize) -> Found
     requires { ⌜ HoldsRows limits (now t) (now rows) × OneTruck (stacksIn limits (now t)) start end ⌝ }
     ensures { λ r. ⌜ r ≡ lowestIn (stackPlaces braced noAmount (instanceIn limits (now (t .entry)))

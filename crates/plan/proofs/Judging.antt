@@ -23,13 +23,13 @@ use Rattle.plan.proofs.Splices.{put-spliced, spliced-there, spliced-fir
 use Rattle.plan.proofs.Rows.{rows-kept}
 
 -- ---- the largest word
-pub stack-refuses-largest : (trucks : ℕ) (taken : List ℕ) → trucks < 4294967295 → RefusesLargest (stackLine trucks taken)
-stack-refuses-largest trucks taken h ns l e =
-    ranges-below _ (stackRanges trucks) ns (omega arith) l (and-reads (allWithin (stackRanges trucks) ns) (not (listed (stackNumber ns) taken)) .0 e .0)
+pub stack-refuses-largest : (trucks : ℕ) (earlier : List ℕ) → trucks < 4294967295 → RefusesLargest (stackLine trucks earlier)
+stack-refuses-largest trucks earlier h ns l e =
+    ranges-below _ (stackRanges trucks) ns (omega arith) l (and-reads (allWithin (stackRanges trucks) ns) (not (listed (stackNumber ns) earlier)) .0 e .0)
 
-pub load-refuses-largest : (most items held : ℕ) → items < 4294967295 → RefusesLargest (loadLine most items held)
-load-refuses-largest most items held h ns l e =
-    range-below _ 1 items ns h (and-reads (all (between 1 items) ns) (leb (held + length ns) most) .0 e .0)
+pub load-refuses-largest : (most items loaded : ℕ) → items < 4294967295 → RefusesLargest (loadLine most items loaded)
+load-refuses-largest most items loaded h ns l e =
+    range-below _ 1 items ns h (and-reads (all (between 1 items) ns) (leb (loaded + length ns) most) .0 e .0)
 
 -- ---- a stack's row
 -- the test as it is made on the words, where the row was lent and came back
@@ -46,10 +46,10 @@ row-fits part row trucks k size h l z =
     ) refl
 
 -- ---- a load
--- the test as it is made on so many words, together with those held
-pub load-fits : (load : List ℕ) (most items held count : ℕ) → count ≤ length load
-    → (all (between 1 items) (take (count - 0) load) && leb (held + count) most) ≡ loadLine most items held .fits (take (count - 0) load)
-load-fits load most items held count h =
+-- the test as it is made on so many words, together with those loaded
+pub load-fits : (load : List ℕ) (most items loaded count : ℕ) → count ≤ length load
+    → (all (between 1 items) (take (count - 0) load) && leb (loaded + count) most) ≡ loadLine most items loaded .fits (take (count - 0) load)
+load-fits load most items loaded count h =
     let l : length (take (count - 0) load) ≡ count = length-take-le (count - 0) load (omega arith) ∙ omega arith in
     rw l refl
 
@@ -61,21 +61,21 @@ kept-fewer (WrongForm n) ok = omega arith
 kept-fewer (OutOfRange n) ok = omega arith
 
 -- so they have room, which is part of the test
-pub kept-room : (q : Progress) (ok in-range : Bool) (held count most : ℕ) → count ≡ entriesOf q → ok ≡ (in-range && leb (held + count) most) → held ≤ most
-    → held + entriesOf (judgedAs q ok) ≤ most
-kept-room (Next at n k) true in-range held count most c e h =
-    omega (arith, leb-true (held + count) most (and-reads in-range (leb (held + count) most) .0 (sym e) .1))
-kept-room (Next at n k) false in-range held count most c e h = omega arith
-kept-room (WrongForm n) ok in-range held count most c e h = omega arith
-kept-room (OutOfRange n) ok in-range held count most c e h = omega arith
+pub kept-room : (q : Progress) (ok in-range : Bool) (loaded count most : ℕ) → count ≡ entriesOf q → ok ≡ (in-range && leb (loaded + count) most) → loaded ≤ most
+    → loaded + entriesOf (judgedAs q ok) ≤ most
+kept-room (Next at n k) true in-range loaded count most c e h =
+    omega (arith, leb-true (loaded + count) most (and-reads in-range (leb (loaded + count) most) .0 (sym e) .1))
+kept-room (Next at n k) false in-range loaded count most c e h = omega arith
+kept-room (WrongForm n) ok in-range loaded count most c e h = omega arith
+kept-room (OutOfRange n) ok in-range loaded count most c e h = omega arith
 
 -- so many of the words that were read, in the place of others
-pub load-within : (file loads load : List ℕ) (reader : Reader (List ℕ)) (n held kept : ℕ) (p r : Progress) → kept ≡ entriesOf r
-    → ReadEntries file reader (padded n) p r load → ReadEntries file reader (λ l. spliced held l loads) p r (spliced held (take kept load) loads)
-load-within file loads load reader n held kept p r e i =
+pub load-within : (file loads load : List ℕ) (reader : Reader (List ℕ)) (n loaded kept : ℕ) (p r : Progress) → kept ≡ entriesOf r
+    → ReadEntries file reader (padded n) p r load → ReadEntries file reader (λ l. spliced loaded l loads) p r (spliced loaded (take kept load) loads)
+load-within file loads load reader n loaded kept p r e i =
     let value = i .into .value in
     let stands : Going r → take kept load ≡ value = λ g. ap (take kept) (i .into .holds g) ∙ take-at value _ kept (sym (e ∙ i .count g)) in
     record {
-      into = record { value = value; says = i .into .says; holds = λ g. ap (λ (l : List ℕ). spliced held l loads) (stands g); sound = i .into .sound };
+      into = record { value = value; says = i .into .says; holds = λ g. ap (λ (l : List ℕ). spliced loaded l loads) (stands g); sound = i .into .sound };
       count = i .count;
     }

@@ -14,14 +14,14 @@ use Rattle.plan.proofs.Splices.{spliced-before}
 
 -- a number looked for from the first row on
 module _ (part : List ℕ) (number : ℕ) where
-  pub taken-before : false ≡ listed number (rowNumbers 0 part)
+  pub repeated-before : false ≡ listed number (rowNumbers 0 part)
   unfolding any rowNumbers
-  taken-before = refl
+  repeated-before = refl
 
-  pub taken-next : (k : ℕ) (taken : Bool) → taken ≡ listed number (rowNumbers k part)
-      → eqb number (getD part (8 * k) 0) || taken ≡ listed number (rowNumbers (k + 1) part)
+  pub repeated-next : (k : ℕ) (repeated : Bool) → repeated ≡ listed number (rowNumbers k part)
+      → eqb number (getD part (8 * k) 0) || repeated ≡ listed number (rowNumbers (k + 1) part)
   unfolding any rowNumbers
-  taken-next k taken e = rw add-one (ap (λ b. eqb number (getD part (8 * k) 0) || b) e)
+  repeated-next k repeated e = rw add-one (ap (λ b. eqb number (getD part (8 * k) 0) || b) e)
 
 -- ---- the words behind the first rows
 first-rows : (k n : ℕ) (part : List ℕ) → 8 * k ≤ n → rowNumbers k (take n part) ≡ rowNumbers k part

@@ -18,7 +18,7 @@ use Rattle.lines.specs.Progress.{reached, resumed, Going, entriesOf, Sound, Rea
 use Rattle.lines.proofs.Follow.{onward-same, onward-twice, onward-give, leaves-then}
 use Rattle.lines.proofs.Follow.{onward-reached, past-reader, given-reached, no-refusal, same-resumed, read-has, read-meets}
 use Rattle.plan.specs.Words.{spliced, rowNumbers, oneStack, StackPromise, planWords}
-use Rattle.plan.proofs.StackWords.{takenBy, SixFields, taken-more, loads-more, Stands, stands-none, stands-taken, stands-more, stack-put}
+use Rattle.plan.proofs.StackWords.{earlierNumbers, SixFields, earlier-more, loads-more, Stands, stands-none, stands-earlier, stands-more, stack-put}
 
 -- a stack of its two lines
 abbrev stackOf : List ℕ → List ℕ → Stack
@@ -26,62 +26,62 @@ stackOf fields load = record { fields = fields; load = load }
 
 module _ (most items trucks : ℕ) where
   -- a stack's line has six fields
-  one-six : (taken : List ℕ) (held n : ℕ) (bs : List ℕ) → Leaves (λ s rest. SixFields s) (oneStack most items trucks taken held n bs)
+  one-six : (earlier : List ℕ) (loaded n : ℕ) (bs : List ℕ) → Leaves (λ s rest. SixFields s) (oneStack most items trucks earlier loaded n bs)
   unfolding oneStack
-  one-six taken held n bs =
-      leaves-onward (λ fields rest. length fields ≡ 6) (λ s rest. SixFields s) (line (stackLine trucks taken) n bs) _
-      (leaves-line (stackLine trucks taken) _ n bs (λ l rest ns e k f. omega (arith, f .least, f .most)))
-      (λ fields n₁ bs₁ six. leaves-then SixFields (line (loadLine most items held) n₁ bs₁) _ (λ load n₂ bs₂. six))
+  one-six earlier loaded n bs =
+      leaves-onward (λ fields rest. length fields ≡ 6) (λ s rest. SixFields s) (line (stackLine trucks earlier) n bs) _
+      (leaves-line (stackLine trucks earlier) _ n bs (λ l rest ns e k f. omega (arith, f .least, f .most)))
+      (λ fields n₁ bs₁ six. leaves-then SixFields (line (loadLine most items loaded) n₁ bs₁) _ (λ load n₂ bs₂. six))
 
   -- as many stacks as are asked for
-  pub so-many : (count : ℕ) (taken : List ℕ) (held n : ℕ) (bs : List ℕ)
-      → Leaves (λ ss rest. length ss ≡ count) (stackLines most items trucks count taken held n bs)
+  pub so-many : (count : ℕ) (earlier : List ℕ) (loaded n : ℕ) (bs : List ℕ)
+      → Leaves (λ ss rest. length ss ≡ count) (stackLines most items trucks count earlier loaded n bs)
   unfolding stackLines
-  so-many zero taken held n bs = refl
-  so-many (suc count) taken held n bs =
-      leaves-then (λ (ss : List Stack). length ss ≡ suc count) (line (stackLine trucks taken) n bs) _ (λ fields n₁ bs₁.
-      leaves-then (λ (ss : List Stack). length ss ≡ suc count) (line (loadLine most items held) n₁ bs₁) _ (λ load n₂ bs₂.
+  so-many zero earlier loaded n bs = refl
+  so-many (suc count) earlier loaded n bs =
+      leaves-then (λ (ss : List Stack). length ss ≡ suc count) (line (stackLine trucks earlier) n bs) _ (λ fields n₁ bs₁.
+      leaves-then (λ (ss : List Stack). length ss ≡ suc count) (line (loadLine most items loaded) n₁ bs₁) _ (λ load n₂ bs₂.
       leaves-onward (λ ss rest. length ss ≡ count) (λ ss rest. length ss ≡ suc count)
-      (stackLines most items trucks count (stackNumber fields ∷ taken) (held + length load) n₂ bs₂) _
-      (so-many count (stackNumber fields ∷ taken) (held + length load) n₂ bs₂) (λ ss n₃ bs₃ e. ap suc e)))
+      (stackLines most items trucks count (stackNumber fields ∷ earlier) (loaded + length load) n₂ bs₂) _
+      (so-many count (stackNumber fields ∷ earlier) (loaded + length load) n₂ bs₂) (λ ss n₃ bs₃ e. ap suc e)))
 
   -- ---- one stack, from its two lines
-  stack-says : (file : List ℕ) (taken : List ℕ) (held : ℕ) (p q r : Progress) (fields load : List ℕ)
-      → reached file fields q ≡ resumed file p (line (stackLine trucks taken)) → reached file load r ≡ resumed file q (line (loadLine most items held))
-      → reached file (stackOf fields load) r ≡ resumed file p (oneStack most items trucks taken held)
+  stack-says : (file : List ℕ) (earlier : List ℕ) (loaded : ℕ) (p q r : Progress) (fields load : List ℕ)
+      → reached file fields q ≡ resumed file p (line (stackLine trucks earlier)) → reached file load r ≡ resumed file q (line (loadLine most items loaded))
+      → reached file (stackOf fields load) r ≡ resumed file p (oneStack most items trucks earlier loaded)
   unfolding oneStack
-  stack-says file taken held p q r fields load first second =
+  stack-says file earlier loaded p q r fields load first second =
       sym
-      (past-reader file p q fields _ (λ f. line (loadLine most items held) >>= λ l. give (stackOf f l)) first
+      (past-reader file p q fields _ (λ f. line (loadLine most items loaded) >>= λ l. give (stackOf f l)) first
       ∙ past-reader file q r load _ (λ l. give (stackOf fields l)) second
       ∙ given-reached file (stackOf fields load) r)
 
   -- ---- the stacks that are left
   -- so many stacks behind those that were read
   abbrev pub later : ℕ → List Stack → Reader (List Stack)
-  later count ss n bs = onward (stackLines most items trucks count (takenBy ss) (length (loadEntries ss)) n bs) (λ rest. give (ss ++ rest))
+  later count ss n bs = onward (stackLines most items trucks count (earlierNumbers ss) (length (loadEntries ss)) n bs) (λ rest. give (ss ++ rest))
 
   -- before the first
   later-first : (file : List ℕ) (count : ℕ) (p : Progress) → onward (reached file [] p) (later count) ≡ resumed file p (stackLines most items trucks count [] 0)
-  unfolding onward takenBy loadEntries flatMap
+  unfolding onward earlierNumbers loadEntries flatMap
   later-first file count (Next at n k) = onward-give (stackLines most items trucks count [] 0 (suc n) (drop at file))
   later-first file count (WrongForm n) = refl
   later-first file count (OutOfRange n) = refl
 
   -- one of them, and then one fewer
   later-one : (count : ℕ) (ss : List Stack) (n : ℕ) (bs : List ℕ)
-      → later (suc count) ss n bs ≡ onward (oneStack most items trucks (takenBy ss) (length (loadEntries ss)) n bs) (λ s. later count (ss ++ s ∷ []))
+      → later (suc count) ss n bs ≡ onward (oneStack most items trucks (earlierNumbers ss) (length (loadEntries ss)) n bs) (λ s. later count (ss ++ s ∷ []))
   unfolding onward stackLines oneStack
-  later-one count ss n bs = by-fields (line (stackLine trucks (takenBy ss)) n bs)
+  later-one count ss n bs = by-fields (line (stackLine trucks (earlierNumbers ss)) n bs)
     where
-      held : ℕ
-      held = length (loadEntries ss)
+      loaded : ℕ
+      loaded = length (loadEntries ss)
 
       load-line : Reader (List ℕ)
-      load-line = line (loadLine most items held)
+      load-line = line (loadLine most items loaded)
 
       behind : List ℕ → List ℕ → Reader (List Stack)
-      behind fields load = stackLines most items trucks count (stackNumber fields ∷ takenBy ss) (held + length load)
+      behind fields load = stackLines most items trucks count (stackNumber fields ∷ earlierNumbers ss) (loaded + length load)
 
       by-rest : (s : Stack) (x : Outcome (List Stack))
           → onward (onward x (λ rest. give (s ∷ rest))) (λ rest. give (ss ++ rest)) ≡ onward x (λ rest. give ((ss ++ s ∷ []) ++ rest))
@@ -93,8 +93,8 @@ module _ (most items trucks : ℕ) where
           ≡ onward (onward x (λ load. give (stackOf fields load))) (λ s. later count (ss ++ s ∷ []))
       by-load fields (found load n bs) =
           let s = stackOf fields load in
-          let long : length (loadEntries (ss ++ s ∷ [])) ≡ held + length load = ap length (loads-more s ss) ∙ length-append (loadEntries ss) load in
-          rw (taken-more s ss, long) (by-rest s (behind fields load n bs))
+          let long : length (loadEntries (ss ++ s ∷ [])) ≡ loaded + length load = ap length (loads-more s ss) ∙ length-append (loadEntries ss) load in
+          rw (earlier-more s ss, long) (by-rest s (behind fields load n bs))
       by-load fields (wrongForm n) = refl
       by-load fields (outOfRange n) = refl
 
@@ -109,7 +109,7 @@ module _ (most items trucks : ℕ) where
   module _ (file : List ℕ) (ss : List Stack) (q : Progress) where
     -- after one more
     later-next : (count : ℕ) (s : Stack) (r : Progress)
-        → reached file s r ≡ resumed file q (oneStack most items trucks (takenBy ss) (length (loadEntries ss)))
+        → reached file s r ≡ resumed file q (oneStack most items trucks (earlierNumbers ss) (length (loadEntries ss)))
         → onward (reached file ss q) (later (suc count)) ≡ onward (reached file (ss ++ s ∷ []) r) (later count)
     later-next count s r e =
         onward-same (reached file ss q) (later (suc count)) _ (later-one count)
@@ -128,16 +128,16 @@ module _ (most items trucks : ℕ) where
         go (OutOfRange n) = refl
 
 -- ---- one stack, as the code reads it
-module _ (m : Limits) (items trucks k held n : ℕ) (file part₀ part₁ ys : List ℕ) (p q r : Progress) where
+module _ (m : Limits) (items trucks k loaded n : ℕ) (file part₀ part₁ ys : List ℕ) (p q r : Progress) where
   -- the part of the loads
   abbrev lent : List ℕ
   lent = midOf (8 * m .stacks) (length part₁ - 8 * m .stacks) part₁
 
-  pub stack-read : k < m .stacks → held ≤ m .loads → length part₀ ≡ 8 * m .stacks + m .loads → length part₁ ≡ length part₀ → length ys ≡ length lent
+  pub stack-read : k < m .stacks → loaded ≤ m .loads → length part₀ ≡ 8 * m .stacks + m .loads → length part₁ ≡ length part₀ → length ys ≡ length lent
       → ReadInto file (line (stackLine trucks (rowNumbers k part₀))) (λ fields. spliced (8 * k) fields part₀) p q part₁
-      → ReadEntries file (line (loadLine (length lent) items held)) (λ load. spliced held load lent) q r ys
-      → held + entriesOf r ≤ length lent → n ≡ entriesOf r
-      → StackPromise m items trucks k held file p r part₀ (set (set (putMid (8 * m .stacks) (length part₁ - 8 * m .stacks) part₁ ys) (8 * k + 6) held) (8 * k + 7) n)
+      → ReadEntries file (line (loadLine (length lent) items loaded)) (λ load. spliced loaded load lent) q r ys
+      → loaded + entriesOf r ≤ length lent → n ≡ entriesOf r
+      → StackPromise m items trucks k loaded file p r part₀ (set (set (putMid (8 * m .stacks) (length part₁ - 8 * m .stacks) part₁ ys) (8 * k + 6) loaded) (8 * k + 7) n)
   stack-read h room long same lent-same row load within counted =
       let all : length lent ≡ m .loads = simp (length-take, length-drop) (omega arith) in
       let s = stackOf (row .value) (load .into .value) in
@@ -146,12 +146,12 @@ module _ (m : Limits) (items trucks k held n : ℕ) (file part₀ part₁ ys : L
             record {
               value = s;
               says =
-                  stack-says (m .loads) items trucks file (rowNumbers k part₀) held p q r (row .value) (load .into .value) (row .says)
+                  stack-says (m .loads) items trucks file (rowNumbers k part₀) loaded p q r (row .value) (load .into .value) (row .says)
                   (rw all at (load .into .says));
               holds = λ going.
                   let goingRow = no-refusal (load .into) going in
                   let meets = read-meets file (row .value) (stackLine trucks (rowNumbers k part₀)) p q (row .says) goingRow in
-                  stack-put m k held n s part₀ part₁ ys (omega (arith, meets .least, meets .most)) h room (counted ∙ load .count going) long same lent-same
+                  stack-put m k loaded n s part₀ part₁ ys (omega (arith, meets .least, meets .most)) h room (counted ∙ load .count going) long same lent-same
                   (row .holds goingRow) (load .into .holds going);
               sound = load .into .sound;
             };
@@ -159,16 +159,16 @@ module _ (m : Limits) (items trucks k held n : ℕ) (file part₀ part₁ ys : L
         within = omega (arith, all);
       }
 
--- ---- the state of the loop: k stacks of `count` are read, and their loads hold `held` entries. What was read, then what is left, is the
+-- ---- the state of the loop: k stacks of `count` are read, and their loads hold `loaded` entries. What was read, then what is left, is the
 -- whole answer
-pub record SoFar (m : Limits) (items trucks count : ℕ) (file : List ℕ) (p : Progress) (part : List ℕ) (q : Progress) (held k : ℕ) : Type 0 where
+pub record SoFar (m : Limits) (items trucks count : ℕ) (file : List ℕ) (p : Progress) (part : List ℕ) (q : Progress) (loaded k : ℕ) : Type 0 where
   pub stacks : List Stack
   pub many : length stacks ≡ k
   pub below : k ≤ count
-  pub room : held ≤ m .loads
+  pub room : loaded ≤ m .loads
   pub long : length part ≡ 8 * m .stacks + m .loads
   pub sound : Sound file q
-  pub stands : Going q → Stands m stacks held part
+  pub stands : Going q → Stands m stacks loaded part
   pub says : onward (reached file stacks q) (later (m .loads) items trucks (count - k)) ≡ resumed file p (stackLines (m .loads) items trucks count [] 0)
 
 pub so-far-first : (m : Limits) (items trucks count : ℕ) (file : List ℕ) (p : Progress) (part : List ℕ)
@@ -185,19 +185,19 @@ so-far-first m items trucks count file p part cleared sound =
       says = rw (sub-zero count) (later-first (m .loads) items trucks file count p);
     }
 
-module _ {m : Limits} {items trucks count : ℕ} {file : List ℕ} {p : Progress} {part : List ℕ} {q : Progress} {held k : ℕ}
-    (t : SoFar m items trucks count file p part q held k) where
+module _ {m : Limits} {items trucks count : ℕ} {file : List ℕ} {p : Progress} {part : List ℕ} {q : Progress} {loaded k : ℕ}
+    (t : SoFar m items trucks count file p part q loaded k) where
   -- one stack more
   pub so-far-next : (r : Progress) (part′ : List ℕ) (n : ℕ) → k < count → count ≤ m .stacks → n ≡ entriesOf r → length part′ ≡ length part
-      → StackPromise m items trucks k held file q r part part′ → SoFar m items trucks count file p part′ r (held + n) (k + 1)
+      → StackPromise m items trucks k loaded file q r part part′ → SoFar m items trucks count file p part′ r (loaded + n) (k + 1)
   so-far-next r part′ n h fits counted same one =
       let s = one .into .value in
       let ss = t .stacks in
       let left : count - k ≡ suc (count - (k + 1)) = omega arith in
-      let follows : reached file s r ≡ resumed file q (oneStack (m .loads) items trucks (takenBy ss) (length (loadEntries ss))) =
+      let follows : reached file s r ≡ resumed file q (oneStack (m .loads) items trucks (earlierNumbers ss) (length (loadEntries ss))) =
       one .into .says ∙ same-resumed file q _ _ (λ going.
       let stands = t .stands going in
-      ap₂ (oneStack (m .loads) items trucks) (ap (λ (n : ℕ). rowNumbers n part) (sym (t .many)) ∙ stands-taken stands) (stands .counted))
+      ap₂ (oneStack (m .loads) items trucks) (ap (λ (n : ℕ). rowNumbers n part) (sym (t .many)) ∙ stands-earlier stands) (stands .counted))
       in
       record {
         stacks = ss ++ s ∷ [];
@@ -207,7 +207,7 @@ module _ {m : Limits} {items trucks count : ℕ} {file : List ℕ} {p : Progress
         long = same ∙ t .long;
         sound = one .into .sound;
         stands = λ going.
-            let six = read-has file s SixFields q r _ (one-six (m .loads) items trucks (rowNumbers k part) held) (one .into .says) going in
+            let six = read-has file s SixFields q r _ (one-six (m .loads) items trucks (rowNumbers k part) loaded) (one .into .says) going in
             let load : n ≡ length (s .load) = counted ∙ one .count going in
             let more = stands-more (t .stands (no-refusal (one .into) going)) s six (omega (arith, t .many)) (omega (arith, one .within)) in
             rw (load, one .into .holds going, ← t .many) more;

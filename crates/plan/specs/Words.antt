@@ -23,23 +23,23 @@ unfoldable pub rowNumbers : ℕ → List ℕ → List ℕ
 rowNumbers zero part = []
 rowNumbers (suc k) part = getD part (8 * k) 0 ∷ rowNumbers k part
 
--- one `stack=` line with its `load=` line, behind others whose numbers are `taken` and whose loads hold `held` entries
+-- one `stack=` line with its `load=` line, behind others whose numbers are `earlier` and whose loads hold `loaded` entries
 unfoldable pub oneStack : ℕ → ℕ → ℕ → List ℕ → ℕ → Reader Stack
 unfolding onward line
-oneStack most items trucks taken held = do
-  fields ← line (stackLine trucks taken)
-  load ← line (loadLine most items held)
+oneStack most items trucks earlier loaded = do
+  fields ← line (stackLine trucks earlier)
+  load ← line (loadLine most items loaded)
   give (record { fields = fields; load = load })
 
 -- the part with the k-th stack in it
 abbrev pub withStack : Limits → ℕ → ℕ → List ℕ → Stack → List ℕ
-withStack m k held part s = spliced (8 * m .stacks + held) (s .load) (spliced (8 * k) (s .fields ++ (held ∷ length (s .load) ∷ [])) part)
+withStack m k loaded part s = spliced (8 * m .stacks + loaded) (s .load) (spliced (8 * k) (s .fields ++ (loaded ∷ length (s .load) ∷ [])) part)
 
--- what reading one stack promises: the number of its items besides, for which there is room behind those held, also after a refusal
-pub record StackPromise (m : Limits) (items trucks k held : ℕ) (file : List ℕ) (p r : Progress) (part₀ part : List ℕ) : Type 0 where
-  pub into : ReadInto file (oneStack (m .loads) items trucks (rowNumbers k part₀) held) (withStack m k held part₀) p r part
+-- what reading one stack promises: the number of its items besides, for which there is room behind those loaded, also after a refusal
+pub record StackPromise (m : Limits) (items trucks k loaded : ℕ) (file : List ℕ) (p r : Progress) (part₀ part : List ℕ) : Type 0 where
+  pub into : ReadInto file (oneStack (m .loads) items trucks (rowNumbers k part₀) loaded) (withStack m k loaded part₀) p r part
   pub count : Going r → entriesOf r ≡ length (into .value .load)
-  pub within : held + entriesOf r ≤ m .loads
+  pub within : loaded + entriesOf r ≤ m .loads
 
 -- the words of a plan, from the first word of the stacks on
 unfoldable pub planWords : Limits → List Stack → List ℕ

@@ -27,17 +27,17 @@ use table::layout::STACK_WORDS;
 
 // Whether one of the stacks in the first rows has this number, which is the first word of its row. The loop is not left early: without a
 // branch the compiler compares several rows at once.
-fn is_taken(part: &[u32], rows: usize, number: u32) -> bool
+fn is_repeated(part: &[u32], rows: usize, number: u32) -> bool
     requires { ⌜ 8 * rows ≤ length (now part) ⌝ }
     ensures { λ r. ⌜ r ≡ listed number (rowNumbers rows (now (part .entry))) ⌝ }
 {
-    let mut taken = false;
+    let mut repeated = false;
     let mut k: usize = 0;
     while k < rows {
-        taken = (number == part[STACK_WORDS * k]) | taken;
+        repeated = (number == part[STACK_WORDS * k]) | repeated;
         k += 1;
     }
-    taken
+    repeated
 }
 
 // Whether the fields of a stack's line are in range for so many trucks.
@@ -66,8 +66,8 @@ fn read_stack_row(file: &[u8], p: Progress, trucks: u32, k: usize, part: &mut [u
         &mut part[row..row + STACK_FIELDS],
     );
     let in_range = stack_in_range(&part[row..row + STACK_FIELDS], trucks);
-    let taken = is_taken(part, k, part[row]);
-    judged(file, stored, in_range && !taken)
+    let repeated = is_repeated(part, k, part[row]);
+    judged(file, stored, in_range && !repeated)
 }
 
 // The same words, one after another.
@@ -83,19 +83,19 @@ fn copy_words(from: &[u32], to: &mut [u32])
 }
 
 // A `load=` line, behind the entries that the loads hold already. All loads together hold at most as many as there are words for them.
-fn read_load(file: &[u8], p: Progress, items: u32, held: usize, loads: &mut [u32]) -> Progress
-    requires { ⌜ Sound (now file) p × (items < largestWord) × (held ≤ length (now loads)) × (length (now loads) ≤ 65536) ⌝ }
-    ensures read { λ r. ⌜ ReadEntries (now (file .entry)) (line (loadLine (length (now (loads .entry))) items held))
-        (λ load. spliced held load (now (loads .entry))) p r (now (loads .exit)) ⌝ }
-    ensures within { λ r. ⌜ held + entriesOf r ≤ length (now (loads .entry)) ⌝ }
+fn read_load(file: &[u8], p: Progress, items: u32, loaded: usize, loads: &mut [u32]) -> Progress
+    requires { ⌜ Sound (now file) p × (items < largestWord) × (loaded ≤ length (now loads)) × (length (now loads) ≤ 65536) ⌝ }
+    ensures read { λ r. ⌜ ReadEntries (now (file .entry)) (line (loadLine (length (now (loads .entry))) items loaded))
+        (λ load. spliced loaded load (now (loads .entry))) p r (now (loads .exit)) ⌝ }
+    ensures within { λ r. ⌜ loaded + entriesOf r ≤ length (now (loads .entry)) ⌝ }
 {
     let mut load: [u32; 64] = [0; 64];
     let stored = stored_line(file, p, b"load=", 1, &mut load);
     let count = entries(stored);
     let in_range = all_between(&load[0..count], 1, items);
-    let r = judged(file, stored, in_range && held + count <= loads.len());
+    let r = judged(file, stored, in_range && loaded + count <= loads.len());
     let kept = entries(r);
-    copy_words(&load[0..kept], &mut loads[held..held + kept]);
+    copy_words(&load[0..kept], &mut loads[loaded..loaded + kept]);
     r
 }
 
@@ -107,18 +107,18 @@ fn read_stack(
     items: u32,
     trucks: u32,
     k: usize,
-    held: usize,
+    loaded: usize,
     part: &mut [u32],
 ) -> Progress
     requires { ⌜ Bounded limits × Sound (now file) p × (items < largestWord) × (trucks < largestWord) × (k < limits .stacks)
-        × (held ≤ limits .loads) × (length (now part) ≡ 8 * limits .stacks + limits .loads) ⌝ }
-    ensures { λ r. ⌜ StackPromise limits items trucks k held (now (file .entry)) p r (now (part .entry)) (now (part .exit)) ⌝ }
+        × (loaded ≤ limits .loads) × (length (now part) ≡ 8 * limits .stacks + limits .loads) ⌝ }
+    ensures { λ r. ⌜ StackPromise limits items trucks k loaded (now (file .entry)) p r (now (part .entry)) (now (part .exit)) ⌝ }
 {
     let row = STACK_WORDS * k;
     let loads = STACK_WORDS * limits.stacks;
     let q = read_stack_row(file, p, trucks, k, part);
-    let r = read_load(file, q, items, held, &mut part[loads..]);
-    part[row + LOAD_FIRST] = held as u32;
+    let r = read_load(file, q, items, loaded, &mut part[loads..]);
+    part[row + LOAD_FIRST] = loaded as u32;
     part[row + LOAD_COUNT] = entries(r) as u32;
     r
 }
@@ -140,11 +140,11 @@ fn read_stacks(
 {
     clear(part);
     let mut q = p;
-    let mut held: usize = 0;
+    let mut loaded: usize = 0;
     let mut k: usize = 0;
     while k < count {
-        q = read_stack(limits, file, q, items, trucks, k, held, part);
-        held += entries(q);
+        q = read_stack(limits, file, q, items, trucks, k, loaded, part);
+        loaded += entries(q);
         k += 1;
     }
     q

@@ -15,7 +15,7 @@ use Rattle.meaning.specs.Lists.{onlyIf, upFrom, orderFrom, In}
 use Rattle.meaning.specs.Model.{Instance, Item, item, IL, IW, IS}
 use Rattle.meaning.specs.Places.{place, lower, lowerOf, lowest}
 use Rattle.meaning.specs.Claims.{Before, IsLowest}
-use Rattle.meaning.specs.Check.{firstOfCode, sameBase, codeClashes}
+use Rattle.meaning.specs.Check.{firstOfCode, sameLengthAndWidth, codeClashes}
 use Rattle.meaning.proofs.Lists.{drop-back, in-flatMap, in-onlyIf, in-upFrom}
 use Rattle.meaning.proofs.Tests.{fails}
 use Rattle.meaning.proofs.Orders.{one-back}
@@ -26,10 +26,10 @@ use Rattle.reading.specs.declared.Clash.the-variants.{Between, Nowhere}
 
 -- ---- two items, field by field
 module _ (a b : Item) {la lb : ℕ} (ea : la ≡ IL a) (eb : lb ≡ IL b) where
-  pub same-lengths : {wa wb : ℕ} → la ≡ lb → wa ≡ IW a → wb ≡ IW b → eqb wa wb ≡ sameBase a b
+  pub same-lengths : {wa wb : ℕ} → la ≡ lb → wa ≡ IW a → wb ≡ IW b → eqb wa wb ≡ sameLengthAndWidth a b
   same-lengths e fa fb = rw (fa, fb, eq-eqb (IL a) (IL b) (sym ea ∙ e ∙ eb))
 
-  pub other-lengths : (la ≡ lb → ⊥) → false ≡ sameBase a b
+  pub other-lengths : (la ≡ lb → ⊥) → false ≡ sameLengthAndWidth a b
   other-lengths d = rw (ne-eqb (IL a) (IL b) (λ e. d (ea ∙ e ∙ sym eb)))
 
 -- ---- the first item of a code
@@ -56,7 +56,7 @@ module _ {items : List Item} {code k : ℕ} (h : FirstFrom items code k) (most :
 -- the clash of item n with the first of its code, if they clash
 unfoldable clashOf : Instance → ℕ → List Place
 unfolding orderFrom
-clashOf i n = onlyIf (not (sameBase (item i n) (item i (firstOfCode i n)))) (place n (firstOfCode i n) 0)
+clashOf i n = onlyIf (not (sameLengthAndWidth (item i n) (item i (firstOfCode i n)))) (place n (firstOfCode i n) 0)
 
 -- the clashes of the items above n
 unfoldable pub clashesAbove : Instance → ℕ → List Place
@@ -85,7 +85,7 @@ module _ (i : Instance) where
   unfolding clashOf
   clash-at n q m =
       let first = firstOfCode i n in
-      ap (λ (z : Place). z .first) (in-onlyIf (not (sameBase (item i n) (item i first))) q (place n first 0) .0 m .1)
+      ap (λ (z : Place). z .first) (in-onlyIf (not (sameLengthAndWidth (item i n) (item i first))) q (place n first 0) .0 m .1)
 
   clash-above : (n : ℕ) (q : Place) → In q (clashesAbove i n) → n < q .first
   unfolding clashesAbove
@@ -120,7 +120,7 @@ all-asked {i} {n} h end = let e : n ≡ 0 = omega arith in rw (e, all-above i) a
 
 -- one item down, with the first item of its code and the test as the code found them
 module _ {i : Instance} {n first : ℕ} {clash : Clash} {same : Bool} (h : LowestAbove i n clash) (least : 1 ≤ n)
-    (e : first ≡ firstOfCode i n) (test : same ≡ sameBase (item i n) (item i first)) where
+    (e : first ≡ firstOfCode i n) (test : same ≡ sameLengthAndWidth (item i n) (item i first)) where
   next : clashesAbove i (n - 1) ≡ onlyIf (not same) (place n first 0) ++ clashesAbove i n
   unfolding clashOf
   next = rw (test, e) (one-more i n least (h .most))

@@ -17,14 +17,14 @@ use Rattle.meaning.specs.Model.{Instance, Stack}
 use Rattle.meaning.specs.Reader.{Outcome, found, wrongForm, outOfRange, onward, atEnd, wholeFile}
 use Rattle.meaning.specs.Files.{_to_, numberLine, instanceLines, stackLines, planLines}
 use Rattle.meaning.specs.Table.{headWords, stackWords, loadEntries, words, instanceIn}
-use Rattle.meaning.specs.InRange.{InRange, InstanceInRange}
+use Rattle.meaning.specs.Meets.{FilesMeet, InstanceMeets}
 use Rattle.meaning.specs.Places.{place, lowest}
 use Rattle.meaning.specs.Verdict.{refusal}
 use Rattle.meaning.specs.Check.{Reading, refused, readable, refusedAt, afterPlan, afterClash, afterInstance, codeClashes}
 use Rattle.meaning.proofs.Outcomes.{Finds}
 use Rattle.meaning.proofs.ReadFiles.{Wholly}
 use Rattle.meaning.proofs.Printed.{instance-off}
-use Rattle.meaning.proofs.Ranges.{in-range-fits}
+use Rattle.meaning.proofs.Ranges.{meets-fits}
 use Rattle.meaning.proofs.Decode.{decodes}
 use Rattle.table.specs.Filled.{Bounded}
 use Rattle.table.proofs.Fill.{words-filled}
@@ -66,17 +66,17 @@ drop-zeros m =
     (drop-at (replicate (stacksAt m) 0) (zerosBehind m) (stacksAt m) (length-replicate {A = ℕ} (stacksAt m) 0))
 
 -- ---- an instance in range, in the named words
-module _ (m : Limits) (i : Instance) (r : InstanceInRange m i) where
+module _ (m : Limits) (i : Instance) (r : InstanceMeets m i) where
   -- with no stack it is a model in range
-  range : InRange m i []
+  range : FilesMeet m i []
   range = record { instance = r; stackCount = omega arith; stacks = tt }
 
   instance-alone : instanceIn m (words m i []) ≡ i
-  instance-alone = decodes m i [] (in-range-fits m i [] range) .instance
+  instance-alone = decodes m i [] (meets-fits m i [] range) .instance
 
   instance-size : length (instanceWords m i) ≡ stacksAt m
   instance-size =
-      let whole = ap length (no-stack-words m i) ∙ decodes m i [] (in-range-fits m i [] range) .size in
+      let whole = ap length (no-stack-words m i) ∙ decodes m i [] (meets-fits m i [] range) .size in
       let behind = ap length (no-plan-words m) ∙ length-replicate {A = ℕ} (8 * m .stacks + m .loads) 0 in
       omega (arith, whole, behind, length-append (instanceWords m i) (planWords m []))
 
@@ -146,7 +146,7 @@ module _ (m : Limits) (file : List ℕ) (p : Progress) (part : List ℕ) (h : Re
 
   -- where it is read to its end: the words are ready for the plan, and what the plan gives is what both files give
   module _ (at n k : ℕ) (e : p ≡ Next at n k) where
-    in-range : InstanceInRange m (h .value)
+    in-range : InstanceMeets m (h .value)
     unfolding wholeFile
     in-range =
         instance-off m file (h .value) (whole-finds (instanceLines m 1 file) (h .value) (suc n) (drop at file) (sym (instance-said (Next at n k) e))) .0
@@ -195,7 +195,7 @@ module _ (m : Limits) (i : Instance) (file : List ℕ) (items trucks : ℕ) (r :
   unfolding afterPlan
   plan-range t n line e k = line-refused m onPlan t (PlanRange line) 8 n line (ap (afterPlan i) (plan-said (OutOfRange n) e)) k refl
 
-  pub plan-readable : (t : List ℕ) (from at n k : ℕ) → InstanceInRange m i → t ≡ words m i [] → from ≡ stacksAt m → r .progress ≡ Next at n k
+  pub plan-readable : (t : List ℕ) (from at n k : ℕ) → InstanceMeets m i → t ≡ words m i [] → from ≡ stacksAt m → r .progress ≡ Next at n k
       → FillPromise m onPlan Readable (set (putMid from (length t - from) t part) 5 (r .stacks))
   unfolding afterPlan
   plan-readable t from at n k range w f e =

@@ -16,8 +16,8 @@ use Rattle.meaning.specs.Table.{instanceIn, stacksIn}
 use Rattle.meaning.specs.Check.{Reading, refused, readable, afterInstance, readFiles, namedAfter, tableAfter}
 use Rattle.meaning.specs.Claims.{Readable}
 use Rattle.meaning.proofs.Tests.{true≢false}
-use Rattle.meaning.proofs.Ranges.{read-in-range, read-fits}
-use Rattle.meaning.proofs.Decode.{instance-held, stacks-held}
+use Rattle.meaning.proofs.Ranges.{read-meets, read-fits}
+use Rattle.meaning.proofs.Decode.{instance-decoded, stacks-decoded}
 use Rattle.table.specs.Filled.{Bounded, Filled}
 use Rattle.table.proofs.Fill.{table-filled}
 use Rattle.reading.specs.declared.FilesRead.{FilesRead}
@@ -85,7 +85,7 @@ module _ (m : Limits) (instance plan table : List ℕ) where
   held b (readable i p) e k beyond =
       let r : Readable m instance plan = record { says = i; stacks = p; read = e } in
       let fits = read-fits m instance plan r in
-      (sym (ap₂ readable (instance-held m i p fits beyond) (stacks-held m i p fits beyond)), table-filled m i p beyond (read-in-range m instance plan r) b)
+      (sym (ap₂ readable (instance-decoded m i p fits beyond) (stacks-decoded m i p fits beyond)), table-filled m i p beyond (read-meets m instance plan r) b)
 
   -- of a long one the words beyond the named ones stay
   pub long-read : Bounded m → (r : FilesRead) (t : List ℕ) (end : ℕ) → end ≡ named m → end ≤ length table → NamedPromise m (readFiles m instance plan) r t

@@ -9,7 +9,7 @@ ghost use Rattle.meaning.specs.Files.{instanceLines, planLines};
 ghost use Rattle.meaning.specs.Model.{item};
 ghost use Rattle.meaning.specs.Table.{instanceIn};
 ghost use Rattle.meaning.specs.Verdict.{refusal};
-ghost use Rattle.meaning.specs.Check.{firstOfCode, sameBase, codeClashes, afterPlan, afterClash, afterInstance, readFiles};
+ghost use Rattle.meaning.specs.Check.{firstOfCode, sameLengthAndWidth, codeClashes, afterPlan, afterClash, afterInstance, readFiles};
 ghost use Rattle.table.specs.Filled.{Bounded, Filled, ItemNumber};
 ghost use Rattle.reading.specs.Answered.{clashPlace, FillPromise, HoldsInstance, readableBy, refusalAnswer, NamedPromise, ReadPromise};
 use instance::read_instance;
@@ -48,9 +48,9 @@ fn first_of_code(t: &[u32], limits: Limits, n: u32) -> u32
 }
 
 // Whether two items have the same length and width.
-fn same_base(t: &[u32], limits: Limits, n: u32, k: u32) -> bool
+fn same_length_and_width(t: &[u32], limits: Limits, n: u32, k: u32) -> bool
     requires { ⌜ Filled limits (now t) × ItemNumber (instanceIn limits (now t)) n × ItemNumber (instanceIn limits (now t)) k ⌝ }
-    ensures { λ r. ⌜ r ≡ sameBase (item (instanceIn limits (now (t .entry))) n) (item (instanceIn limits (now (t .entry))) k) ⌝ }
+    ensures { λ r. ⌜ r ≡ sameLengthAndWidth (item (instanceIn limits (now (t .entry))) n) (item (instanceIn limits (now (t .entry))) k) ⌝ }
 {
     if item_field(t, limits, n, IL) == item_field(t, limits, k, IL) {
         item_field(t, limits, n, IW) == item_field(t, limits, k, IW)
@@ -74,7 +74,7 @@ fn lowest_clash(t: &[u32], limits: Limits) -> Clash
     let mut n = item_count(t, limits);
     while 0 < n {
         let first = first_of_code(t, limits, n);
-        if !same_base(t, limits, n, first) {
+        if !same_length_and_width(t, limits, n, first) {
             clash = Clash::Between(n, first);
         }
         n -= 1;

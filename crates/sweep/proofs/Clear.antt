@@ -12,7 +12,7 @@ use Rattle.meaning.specs.Rules.{disjoint}
 use Rattle.views.specs.declared.Footprint.{Footprint}
 use Rattle.views.specs.Views.{footprintOf}
 use Rattle.visits.specs.Visits.{visitAt}
-use Rattle.pairrules.specs.PairRules.{apart}
+use Rattle.pairrules.specs.PairRules.{disjointFootprints}
 use Rattle.pairrules.proofs.Blocks.{Upto, upto-start, upto-more}
 use Rattle.sweep.specs.Along.{Along, placeAlong}
 use Rattle.sweep.proofs.Places.{nth, x-rising}
@@ -36,9 +36,9 @@ module _ {i : Instance} {p : List Stack} {start end : ℕ} {along : List ℕ} {k
 
     module _ (up : j < end - start) {first second : ℕ} (ef : first ≡ placeAlong start along k) (es : second ≡ placeAlong start along j)
         {ground other : Footprint} (eg : ground ≡ footprintOf i (visitAt p first)) (eo : other ≡ footprintOf i (visitAt p second)) where
-      pub clear-more : {kept : Bool} → kept ≡ apart ground other → not kept ≡ false → ClearUpto i p start end along k (j + 1)
+      pub clear-more : {kept : Bool} → kept ≡ disjointFootprints ground other → not kept ≡ false → ClearUpto i p start end along k (j + 1)
       clear-more {kept} asks e =
-          let here : apart ground other ≡ disjoint i (nth p start along k) (nth p start along j) = rw (eg, eo, ef, es) refl in
+          let here : disjointFootprints ground other ≡ disjoint i (nth p start along k) (nth p start along j) = rw (eg, eo, ef, es) refl in
           record { asked = upto-more (h .asked) up (sym here ∙ sym asks ∙ not-false kept e) }
 
       -- the j-th begins where it ends, or behind, and so do all further along

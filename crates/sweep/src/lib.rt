@@ -12,9 +12,9 @@ ghost use Rattle.visits.specs.Visits.{block, HoldsRows, OneTruck};
 ghost use Rattle.sweep.specs.Along.{xFrom, placeAlong, HoldsAlong, KeptAlong, sweptPlaces, Settled};
 ghost use Rattle.sweep.specs.declared.SweptRule.the-variants.{Overlap, Unbraced, Order};
 use meaning::Limits;
-use pairrules::braces;
+use pairrules::disjoint;
+use pairrules::in_contact;
 use pairrules::in_loading_order;
-use pairrules::is_apart;
 use visits::as_index;
 use visits::footprint_at;
 use visits::row;
@@ -68,7 +68,7 @@ fn is_clear(t: &[u32], limits: Limits, rows: &[u32], on: Block, along: &[u32], k
         if ground.xe <= other.x {
             return true;
         }
-        if !is_apart(ground, other) {
+        if !disjoint(ground, other) {
             return false;
         }
         j += 1;
@@ -78,9 +78,9 @@ fn is_clear(t: &[u32], limits: Limits, rows: &[u32], on: Block, along: &[u32], k
 
 // ---- 24 unbraced
 
-// Whether the k-th stack stands at the front wall or is held by one before it along the trailer. What holds it ends where it begins, so it
+// Whether the k-th stack stands at the front wall or is braced by one before it along the trailer. What braces it ends where it begins, so it
 // is found among the nearest.
-fn is_held(t: &[u32], limits: Limits, rows: &[u32], on: Block, along: &[u32], k: usize) -> bool
+fn is_braced(t: &[u32], limits: Limits, rows: &[u32], on: Block, along: &[u32], k: usize) -> bool
     requires { ⌜ HoldsAlong limits (now t) (now rows) (on .start) (on .end) (now along) × (k < on .end - on .start) ⌝ }
     ensures { λ r. ⌜ (r ≡ true → KeptAlong Unbraced limits (now (t .entry)) (on .start) (on .end) (now (along .entry)) k) ⌝ }
 {
@@ -93,7 +93,7 @@ fn is_held(t: &[u32], limits: Limits, rows: &[u32], on: Block, along: &[u32], k:
     while 0 < j {
         j -= 1;
         let other = place_along(t, limits, rows, on, along, j);
-        if (other != place) & braces(ground, footprint_at(t, limits, rows, other)) {
+        if (other != place) & in_contact(ground, footprint_at(t, limits, rows, other)) {
             return true;
         }
     }
@@ -144,7 +144,7 @@ fn is_kept(
 {
     match rule {
         SweptRule::Overlap => is_clear(t, limits, rows, on, along, k),
-        SweptRule::Unbraced => is_held(t, limits, rows, on, along, k),
+        SweptRule::Unbraced => is_braced(t, limits, rows, on, along, k),
         SweptRule::Order => is_in_order(t, limits, rows, on, along, k),
     }
 }

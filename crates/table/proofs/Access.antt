@@ -13,10 +13,10 @@ use Rattle.meaning.specs.Model.{Truck, Stack, item, noTruck, truckNumbered, IM}
 use Rattle.meaning.specs.Files.{itemLine}
 use Rattle.meaning.specs.Measures.{sm, weight}
 use Rattle.meaning.specs.Table.{truckIn, instanceIn, stacksIn, loadEntries, truckPlace, stackPlace, loadFirst, loadCount}
-use Rattle.meaning.specs.InRange.{Meets, TruckInRange}
+use Rattle.meaning.specs.Meets.{Meets, TruckMeets}
 use Rattle.meaning.proofs.Lists.{every-at}
 use Rattle.meaning.proofs.Sums.{sum-most, sum-factor, length-flatMap}
-use Rattle.meaning.proofs.Ranges.{in-range-fits}
+use Rattle.meaning.proofs.Ranges.{meets-fits}
 use Rattle.table.specs.Filled.{Filled, noStack, stackAt, ItemNumber, TruckNumber, docksAtOrder, itemMost, truckMost, stackMost}
 use Rattle.table.proofs.Parts.{part, part-at, part-part, length-part, behind, behind-whole}
 use Rattle.table.proofs.Bounds.{StackBounded, stacks-bounded, item-most, truck-most, stack-most}
@@ -30,7 +30,7 @@ word-read t at place v most e w b = rw e (sym w, omega arith)
 pub record BehindCount (list : Truck → List ℕ) (at most : ℕ) : Type 0 where
   pub inside : at + 1 + most < 160
   pub stands : (row : List ℕ) → list (truckIn row) ≡ behind at row
-  pub short : (a : Truck) → TruckInRange a → length (list a) ≤ most
+  pub short : (a : Truck) → TruckMeets a → length (list a) ≤ most
 
 pub products-behind : BehindCount (λ a. a .products) 20 32
 unfolding truckIn
@@ -54,8 +54,8 @@ module _ {m : Limits} {t : List ℕ} (h : Filled m t) where
   pub item-in : (n : ℕ) → ItemNumber (instanceIn m t) n → Meets itemLine (item (instanceIn m t) n)
   item-in n k = every-at (Meets itemLine) (instanceIn m t .items) [] (n - 1) (h .range .instance .items) (omega (arith, k .0, k .1))
 
-  pub truck-in : (n : ℕ) → TruckNumber (instanceIn m t) n → TruckInRange (truckNumbered (instanceIn m t) n)
-  truck-in n k = every-at TruckInRange (instanceIn m t .trucks) noTruck (n - 1) (h .range .instance .trucks) (omega (arith, k .0, k .1))
+  pub truck-in : (n : ℕ) → TruckNumber (instanceIn m t) n → TruckMeets (truckNumbered (instanceIn m t) n)
+  truck-in n k = every-at TruckMeets (instanceIn m t .trucks) noTruck (n - 1) (h .range .instance .trucks) (omega (arith, k .0, k .1))
 
   pub stacks-in : Every (StackBounded (length (instanceIn m t .items)) (length (instanceIn m t .trucks))) (stacksIn m t)
   stacks-in = stacks-bounded (m .loads) _ _ [] 0 (stacksIn m t) (h .range .stacks)
@@ -66,7 +66,7 @@ module _ {m : Limits} {t : List ℕ} (h : Filled m t) where
 
   -- ---- how much the stacks hold and weigh
   pub few-entries : length (loadEntries (stacksIn m t)) ≤ 65536
-  few-entries = omega (arith, in-range-fits m (instanceIn m t) (stacksIn m t) (h .range) .loads, h .bounded .loads)
+  few-entries = omega (arith, meets-fits m (instanceIn m t) (stacksIn m t) (h .range) .loads, h .bounded .loads)
 
   -- k for each entry of the loads
   pub per-entry-most : (k : ℕ) → sum (λ (s : Stack). k * length (s .load)) (stacksIn m t) ≤ k * 65536

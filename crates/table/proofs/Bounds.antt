@@ -7,7 +7,7 @@ use lib.ListN.{length, getD, List·getD-map}
 use Rattle.meaning.specs.Lists.{Every, all, between}
 use Rattle.meaning.specs.Model.{Item, Stack, IL, IH, number}
 use Rattle.meaning.specs.Files.{Range, _to_, itemLine, itemRanges, truckLine, truckRanges, stackLine, stackRanges, loadLine}
-use Rattle.meaning.specs.InRange.{Meets, StacksInRange}
+use Rattle.meaning.specs.Meets.{Meets, StacksMeet}
 use Rattle.meaning.proofs.Tests.{and-reads, between-reads}
 use Rattle.meaning.proofs.Lists.{all-reads, at-in}
 use Rattle.meaning.proofs.Fields.{Within, item-within, truck-within, stack-within}
@@ -51,21 +51,21 @@ pub record StackBounded (items trucks : ℕ) (s : Stack) : Type 0 where
   pub entries : (j : ℕ) → j < length (s .load) → Within (1 to items) (getD (s .load) j 0)
 
 module _ (most items trucks : ℕ) where
-  stack-bounded : (taken : List ℕ) (held : ℕ) (s : Stack) → Meets (stackLine trucks taken) (s .fields) → Meets (loadLine most items held) (s .load)
+  stack-bounded : (earlier : List ℕ) (loaded : ℕ) (s : Stack) → Meets (stackLine trucks earlier) (s .fields) → Meets (loadLine most items loaded) (s .load)
       → StackBounded items trucks s
-  stack-bounded taken held s f l =
-      let each = and-reads (all (between 1 items) (s .load)) (leb (held + length (s .load)) most) .0 (l .fits) .0 in
+  stack-bounded earlier loaded s f l =
+      let each = and-reads (all (between 1 items) (s .load)) (leb (loaded + length (s .load)) most) .0 (l .fits) .0 in
       record {
-        within = stack-within trucks taken (s .fields) f;
+        within = stack-within trucks earlier (s .fields) f;
         someEntry = l .least;
         fewEntries = l .most;
         entries = λ j h. between-reads 1 items (getD (s .load) j 0) .0 (all-reads (between 1 items) (s .load) .0 each _ (at-in (s .load) 0 j h));
       }
 
-  pub stacks-bounded : (taken : List ℕ) (held : ℕ) (p : List Stack) → StacksInRange most items trucks taken held p → Every (StackBounded items trucks) p
-  stacks-bounded taken held [] h = tt
-  stacks-bounded taken held (s ∷ p) h =
-      (stack-bounded taken held s (h .0) (h .1), stacks-bounded (number s ∷ taken) (held + length (s .load)) p (h .2))
+  pub stacks-bounded : (earlier : List ℕ) (loaded : ℕ) (p : List Stack) → StacksMeet most items trucks earlier loaded p → Every (StackBounded items trucks) p
+  stacks-bounded earlier loaded [] h = tt
+  stacks-bounded earlier loaded (s ∷ p) h =
+      (stack-bounded earlier loaded s (h .0) (h .1), stacks-bounded (number s ∷ earlier) (loaded + length (s .load)) p (h .2))
 
 pub stack-most : (items trucks : ℕ) (s : Stack) → StackBounded items trucks s → trucks ≤ 16777216 → (k : ℕ) → k < 6 → getD (s .fields) k 0 ≤ stackMost k
 stack-most items trucks s h few k l =

@@ -10,11 +10,12 @@ use Rattle.meaning.specs.Lists.{Every, padded}
 use Rattle.meaning.specs.Limits.{trucksAt, stacksAt}
 use Rattle.meaning.specs.Model.{Instance, Truck, Stack, noTruck, truckNumbered}
 use Rattle.meaning.specs.Table.{truckWords, stackWords, loadEntries, words, truckPlace}
-use Rattle.meaning.specs.InRange.{InRange, TruckFits, Fits}
+use Rattle.meaning.specs.Meets.{FilesMeet}
+use Rattle.meaning.specs.InRange.{TruckFits, Fits}
 use Rattle.meaning.proofs.Lists.{every-at, map-at}
-use Rattle.meaning.proofs.Decode.{From, past, drop-from, word-at, length-padded, dockWords, from62, stackRow, length-stackRow}
-use Rattle.meaning.proofs.Decode.{behindStacks, truck-rows, stack-rows, instance-held, stacks-held, decodes}
-use Rattle.meaning.proofs.Ranges.{in-range-fits}
+use Rattle.meaning.proofs.Decode.{From, past, drop-from, word-at, length-padded, dockWords, from62, oneStackWords, length-oneStackWords}
+use Rattle.meaning.proofs.Decode.{behindStacks, truck-words-at, stack-words-at, instance-decoded, stacks-decoded, decodes}
+use Rattle.meaning.proofs.Ranges.{meets-fits}
 use Rattle.table.specs.Filled.{Bounded, Filled, TruckNumber}
 use Rattle.table.proofs.Parts.{part, part-at, chunk-at}
 
@@ -48,26 +49,26 @@ load-end before (a ∷ p) rest zero l h =
     omega (arith, word-at from6, word-at from7, length-append (a .load) (loadEntries p))
 load-end before (a ∷ p) rest (suc s) l h =
     let entries = length (a .load) in
-    let row = stackRow before a in
+    let row = oneStackWords before a in
     let later = stackWords (before + entries) p in
-    let size = length-stackRow before a (h .0) in
+    let size = length-oneStackWords before a (h .0) in
     let first : 8 * suc s + 6 ≡ length row + (8 * s + 6) = omega arith in
     let count : 8 * suc s + 7 ≡ length row + (8 * s + 7) = omega arith in
     rw (append-assoc row later rest, first, count, getD-append-add row (later ++ rest) (8 * s + 6) 0, getD-append-add row (later ++ rest) (8 * s + 7) 0)
     (omega (arith, load-end (before + entries) p rest s (omega arith) (h .1), length-append (a .load) (loadEntries p)))
 
 -- ---- the table
-module _ (m : Limits) (i : Instance) (p : List Stack) (beyond : List ℕ) (r : InRange m i p) where
+module _ (m : Limits) (i : Instance) (p : List Stack) (beyond : List ℕ) (r : FilesMeet m i p) where
   abbrev table : List ℕ
   table = words m i p ++ beyond
 
   fits : Fits m i p
-  fits = in-range-fits m i p r
+  fits = meets-fits m i p r
 
   row-held : (n : ℕ) → TruckNumber i n → part (truckPlace m n) 160 table ≡ truckWords (truckNumbered i n)
   row-held n h =
       sym (chunk-at 160 (length (i .trucks)) (n - 1) (trucksAt m) table (omega (arith, h .0, h .1)))
-      ∙ ap (λ (rows : List (List ℕ)). getD rows (n - 1) []) (truck-rows m i p fits beyond)
+      ∙ ap (λ (rows : List (List ℕ)). getD rows (n - 1) []) (truck-words-at m i p fits beyond)
       ∙ map-at truckWords (i .trucks) (n - 1) noTruck [] (omega (arith, h .0, h .1))
 
   docks-within : (n k : ℕ) → TruckNumber i n → k < 8 → getD table (truckPlace m n + 62 + k) 0 ≤ 8
@@ -80,13 +81,13 @@ module _ (m : Limits) (i : Instance) (p : List Stack) (beyond : List ℕ) (r : I
   loads-within s l =
       let first : stacksAt m + 8 * s + 6 ≡ stacksAt m + (8 * s + 6) = omega arith in
       let count : stacksAt m + 8 * s + 7 ≡ stacksAt m + (8 * s + 7) = omega arith in
-      rw (first, count, ← getD-drop (stacksAt m) table (8 * s + 6) 0, ← getD-drop (stacksAt m) table (8 * s + 7) 0, stack-rows m i p fits beyond)
+      rw (first, count, ← getD-drop (stacksAt m) table (8 * s + 6) 0, ← getD-drop (stacksAt m) table (8 * s + 7) 0, stack-words-at m i p fits beyond)
       (omega (arith, load-end 0 p (behindStacks m i p beyond) s l (fits .stacks), fits .loads))
 
   pub table-filled : Bounded m → Filled m (words m i p ++ beyond)
   table-filled b =
-      let instance = instance-held m i p fits beyond in
-      let stacks = stacks-held m i p fits beyond in
+      let instance = instance-decoded m i p fits beyond in
+      let stacks = stacks-decoded m i p fits beyond in
       record {
         bounded = b;
         room = simp length-append (omega (arith, decodes m i p fits .size));
@@ -95,5 +96,5 @@ module _ (m : Limits) (i : Instance) (p : List Stack) (beyond : List ℕ) (r : I
         loads = λ s l. loads-within s (rw stacks at l);
       }
 
-pub words-filled : (m : Limits) (i : Instance) (p : List Stack) → InRange m i p → Bounded m → Filled m (words m i p)
+pub words-filled : (m : Limits) (i : Instance) (p : List Stack) → FilesMeet m i p → Bounded m → Filled m (words m i p)
 words-filled m i p r b = rw (append-nil (words m i p)) at (table-filled m i p [] r b)

@@ -9,14 +9,14 @@ use Rattle.meaning.specs.declared.Limits.{Limits}
 use Rattle.meaning.specs.Lists.{chunks}
 use Rattle.meaning.specs.Limits.{itemsAt, trucksAt, stacksAt, loadsAt}
 use Rattle.meaning.specs.Model.{item, noTruck, truckNumbered}
-use Rattle.meaning.specs.Table.{cutRows, truckIn, instanceIn, stackIn, stacksIn, truckPlace, stackPlace, loadFirst, loadCount}
+use Rattle.meaning.specs.Table.{cutLists, truckIn, instanceIn, stackIn, stacksIn, truckPlace, stackPlace, loadFirst, loadCount}
 use Rattle.table.specs.Filled.{noStack, stackAt, ItemNumber, TruckNumber}
 use Rattle.table.proofs.Parts.{part, part-at, length-part, length-chunks, chunk-at, length-made, made-at}
 
 -- ---- the docks of a truck's row, which stand in rows of eight words
 cut-at : (counts : List ℕ) (rows : List (List ℕ)) (k : ℕ) → k < length counts → k < length rows
-    → getD (cutRows counts rows) k [] ≡ take (getD counts k 0) (getD rows k [])
-unfolding cutRows
+    → getD (cutLists counts rows) k [] ≡ take (getD counts k 0) (getD rows k [])
+unfolding cutLists
 cut-at [] rows k h l = absurd (omega arith)
 cut-at (n ∷ counts) [] k h l = absurd (omega arith)
 cut-at (n ∷ counts) (row ∷ rows) zero h l = refl

@@ -6,7 +6,7 @@ use Rattle.meaning.specs.declared.Limits.{Limits}
 use Rattle.meaning.specs.Limits.{named}
 use Rattle.meaning.specs.Model.{Instance, Stack, Truck}
 use Rattle.meaning.specs.Table.{instanceIn, stacksIn, dockCount, loadFirst, loadCount}
-use Rattle.meaning.specs.InRange.{InRange}
+use Rattle.meaning.specs.Meets.{FilesMeet}
 
 -- an item has this number: "Items and trucks are numbered from 1 in file order"
 abbrev pub ItemNumber : Instance → ℕ → Type 0
@@ -27,7 +27,7 @@ pub record Bounded (m : Limits) : Type 0 where
 pub record Filled (m : Limits) (t : List ℕ) : Type 0 where
   pub bounded : Bounded m
   pub room : named m ≤ length t
-  pub range : InRange m (instanceIn m t) (stacksIn m t)
+  pub range : FilesMeet m (instanceIn m t) (stacksIn m t)
   pub docks : (n k : ℕ) → TruckNumber (instanceIn m t) n → k < 8 → dockCount m t n k ≤ 8
   pub loads : (s : ℕ) → s < length (stacksIn m t) → loadFirst m t s + loadCount m t s ≤ m .loads
 

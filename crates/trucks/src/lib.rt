@@ -10,8 +10,8 @@ ghost use Rattle.trucks.specs.Rows.{rows, dockWords};
 use lines::Progress;
 use lines::counted_line;
 use lines::entries;
+use lines::fields_line;
 use lines::identifiers_line;
-use lines::row_line;
 use table::clear;
 use table::layout::BEHIND_DOCKS;
 use table::layout::DOCK_COUNTS;
@@ -39,7 +39,7 @@ fn read_docks(file: &[u8], p: Progress, suppliers: usize, part: &mut [u32]) -> P
 }
 
 // The truck's own line.
-fn read_truck_row(file: &[u8], p: Progress, part: &mut [u32]) -> Progress
+fn read_truck_fields(file: &[u8], p: Progress, part: &mut [u32]) -> Progress
     requires { ⌜ Sound (now file) p × (length (now part) ≡ 20) ⌝ }
     ensures { λ r. ⌜ ReadInto (now (file .entry)) (line truckLine) (λ ns. ns) p r (now (part .exit)) ⌝ }
 {
@@ -67,7 +67,7 @@ fn read_truck_row(file: &[u8], p: Progress, part: &mut [u32]) -> Progress
         50000, // EMmr
         50000, // EMmm
     ];
-    row_line(file, p, b"truck=", &lows, &highs, part)
+    fields_line(file, p, b"truck=", &lows, &highs, part)
 }
 
 // All lines of a truck, into its 160 words.
@@ -77,7 +77,7 @@ fn read_truck(file: &[u8], p: Progress, part: &mut [u32]) -> Progress
 {
     // Whatever stood in the truck's words before, nothing of it is left.
     clear(&mut part[0..TRUCK_WORDS]);
-    let row = read_truck_row(file, p, &mut part[0..PRODUCTS]);
+    let row = read_truck_fields(file, p, &mut part[0..PRODUCTS]);
     let products = counted_line(file, row, b"products=", &mut part[PRODUCTS..SUPPLIERS]);
     let suppliers = counted_line(
         file,

@@ -8,7 +8,7 @@ use lib.ListN.{length, getD}
 use Rattle.meaning.specs.declared.Limits.{Limits}
 use Rattle.meaning.specs.Model.{item, truck, truckOf, x, y, orientation}
 use Rattle.meaning.specs.Table.{instanceIn, stacksIn}
-use Rattle.meaning.specs.InRange.{TruckInRange}
+use Rattle.meaning.specs.Meets.{TruckMeets}
 use Rattle.meaning.specs.Measures.{sl, sw, xe, ye, supplierOrder, plantDockOrder}
 use Rattle.meaning.proofs.Orders.{order-most}
 use Rattle.table.specs.Filled.{Filled, stackAt, itemMost}
@@ -25,7 +25,7 @@ module _ {m : Limits} {t : List ℕ} (h : Filled m t) (s : ℕ) (l : s < length 
       → getD (item (instanceIn m t) (getD (stackAt (stacksIn m t) s .load) j 0)) f 0 ≤ itemMost f
   entry-most j f k b = item-most _ (item-in h _ (stack-in h s l .entries j k)) f b
 
-  pub stack-truck-in : TruckInRange (truckOf (instanceIn m t) (stackAt (stacksIn m t) s))
+  pub stack-truck-in : TruckMeets (truckOf (instanceIn m t) (stackAt (stacksIn m t) s))
   stack-truck-in = truck-in h (truck (stackAt (stacksIn m t) s)) (stack-in h s l .within 1 (omega arith))
 
   pub footprint-bounds : let i = instanceIn m t in let a = stackAt (stacksIn m t) s in (x a ≤ 20000) × (xe i a ≤ 40000) × (y a ≤ 20000) × (ye i a ≤ 40000)

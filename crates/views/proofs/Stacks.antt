@@ -11,7 +11,7 @@ use Rattle.meaning.specs.Lists.{sum, orderIn, orderFrom}
 use Rattle.meaning.specs.Model.{Instance, Truck, Stack, item, truckNumbered, truckOf, truck, x, y, orientation, IL, IW, IH, nesting, IM, IU, IK}
 use Rattle.meaning.specs.Measures.{bottom, weight, height, supplierDockOrder}
 use Rattle.meaning.proofs.Sums.{sum-below, sum-drop}
-use Rattle.meaning.proofs.Orders.{row-at}
+use Rattle.meaning.proofs.Orders.{list-at}
 use Rattle.meaning.proofs.Sound.{SoundStack}
 use Rattle.table.specs.Filled.{docksAtOrder}
 use Rattle.views.specs.declared.Extent.{Extent}
@@ -73,7 +73,7 @@ module _ (i : Instance) (a : Stack) where
 
     pub dock-is : {carrier dock r : ℕ} {l : List ℕ} → 1 ≤ place → carrier ≡ truck a → l ≡ docksAtOrder (truckNumbered i carrier) place
         → dock ≡ IK (item i n) → r ≡ orderIn l dock → r ≡ supplierDockOrder i a (item i n)
-    dock-is first ec el ed er = er ∙ rw (el, ec, ed, its-order, row-at (truckOf i a .docks) place first) refl
+    dock-is first ec el ed er = er ∙ rw (el, ec, ed, its-order, list-at (truckOf i a .docks) place first) refl
 
   -- ---- what the loading order compares
   pub rank-is : {n supplier dock order dockOrder : ℕ} {span : Span} → n ≡ getD (a .load) 0 0 → supplier ≡ IU (item i n) → dock ≡ IK (item i n)

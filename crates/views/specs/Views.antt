@@ -21,7 +21,7 @@ extentOf i s = record { along = along i s; across = across i s }
 abbrev pub footprintOf : Instance → Stack → Footprint
 footprintOf i s = record { x = x s; xe = xe i s; y = y s; ye = ye i s }
 
--- "Height is the sum of IH less the nesting heights ..", "weight sm is the sum of IM"
+-- "Height is the sum of IH less the nesting heights of all but the bottom item"; "weight sm is the sum of IM"
 unfoldable pub sizeOf : Instance → Stack → Size
 unfolding weight height
 sizeOf i s = record { weight = sm i s; height = height i s }

@@ -11,7 +11,7 @@ use Rattle.meaning.specs.Files.{docksLine}
 use Rattle.meaning.specs.Measures.{sm, bottom, docksOf, supplierDockOrder, plantDockOrder, plantDocksOf}
 use Rattle.meaning.specs.Rules.{plantDockCount}
 use Rattle.meaning.specs.Table.{instanceIn, stacksIn}
-use Rattle.meaning.specs.InRange.{Meets}
+use Rattle.meaning.specs.Meets.{Meets}
 use Rattle.meaning.proofs.Lists.{every-map, every-or, dedup-most}
 use Rattle.meaning.proofs.Orders.{order-most}
 use Rattle.table.specs.Filled.{Filled, stackAt}

@@ -14,11 +14,11 @@ use Rattle.meaning.specs.Lists.{In, Every, any, dedup}
 use Rattle.meaning.specs.Model.{Stack, number, truck, copy}
 use Rattle.meaning.specs.Measures.{UsedTruck, usedBy, sameUsed, usedTrucks, stacksOn}
 use Rattle.meaning.specs.Table.{instanceIn, stacksIn}
-use Rattle.meaning.specs.InRange.{StacksInRange}
+use Rattle.meaning.specs.Meets.{StacksMeet}
 use Rattle.meaning.proofs.Tests.{true≢false, fails}
 use Rattle.meaning.proofs.Lists.{NoRepeat, at-in, in-at, in-map, every-at, every-map, every-reads, filter-all, map-at}
 use Rattle.meaning.proofs.Permute.{map-perm, noRepeat-perm}
-use Rattle.meaning.proofs.Sound.{not-taken}
+use Rattle.meaning.proofs.Sound.{not-earlier}
 use Rattle.meaning.proofs.RuleKinds.{used-reads}
 use Rattle.table.specs.Filled.{Filled, noStack}
 use Rattle.table.proofs.Bounds.{StackBounded}
@@ -41,13 +41,13 @@ pub record Keyed (p : List Stack) : Type 0 where
   pub small : Every (λ (s : Stack). (copy s ≤ 99) × (number s ≤ 65535)) p
   pub once : NoRepeat (map number p)
 
-numbers-once : (most items trucks : ℕ) (taken : List ℕ) (held : ℕ) (p : List Stack) → StacksInRange most items trucks taken held p → NoRepeat (map number p)
-numbers-once most items trucks taken held [] h = tt
-numbers-once most items trucks taken held (s ∷ p) h = (
+numbers-once : (most items trucks : ℕ) (earlier : List ℕ) (loaded : ℕ) (p : List Stack) → StacksMeet most items trucks earlier loaded p → NoRepeat (map number p)
+numbers-once most items trucks earlier loaded [] h = tt
+numbers-once most items trucks earlier loaded (s ∷ p) h = (
   (λ m.
       let w = in-map number p (number s) .0 m in
-      not-taken most items trucks (number s ∷ taken) (held + length (s .load)) p (h .2) (w .0) (w .1) (inl (sym (w .2)))),
-  numbers-once most items trucks (number s ∷ taken) (held + length (s .load)) p (h .2),
+      not-earlier most items trucks (number s ∷ earlier) (loaded + length (s .load)) p (h .2) (w .0) (w .1) (inl (sym (w .2)))),
+  numbers-once most items trucks (number s ∷ earlier) (loaded + length (s .load)) p (h .2),
 )
 
 pub filled-keyed : {m : Limits} {t : List ℕ} → Filled m t → Keyed (stacksIn m t)

@@ -1,4 +1,4 @@
--- `pairrules::first_unbraced`: stacks are visited by ascending number, so the first one that is not held is the lowest.
+-- `pairrules::first_unbraced`: stacks are visited by ascending number, so the first one that is not braced is the lowest.
 use Prim.Native.Nat.{_-_}
 use borrow.Author.Needs.{needs}
 use Rattle.meaning.specs.Table.{instanceIn, stacksIn}

@@ -19,8 +19,8 @@ footprint-at-requires c κs = search needs
 footprint-at-requires-2 : tie.Need-footprint-at-requires-2
 footprint-at-requires-2 c κs = search needs
 
-is-apart-requires : tie.Need-is-apart-requires
-is-apart-requires c κs = search needs
+disjoint-requires : tie.Need-disjoint-requires
+disjoint-requires c κs = search needs
 
 enum-told-3 : tie.Need-enum-told-3
 enum-told-3 c = search needs
@@ -33,7 +33,7 @@ returns c = rw (c .before .enum-told .given .1) (c .is-single-pair .ensures)
 
 returns-2 : tie.Need-returns-2
 returns-2 c = rw (c .before .before .before .enum-told2 .given .1)
-    (c .is-apart .ensures ∙ rw (c .before .before .footprint-at .ensures, c .before .footprint-at2 .ensures) refl)
+    (c .disjoint .ensures ∙ rw (c .before .before .footprint-at .ensures, c .before .footprint-at2 .ensures) refl)
 
 returns-3 : tie.Need-returns-3
 returns-3 c = rw (c .before .enum-told3 .given .1) (c .in-loading-order .ensures)
@@ -47,7 +47,7 @@ pair-kept-spec =
     enum-told-2
     footprint-at-requires
     footprint-at-requires-2
-    is-apart-requires
+    disjoint-requires
     enum-told-3
     in-loading-order-requires
     returns

@@ -55,7 +55,7 @@ add-judged c = omega (arith, count-room (c .before .before .before .before))
 tested : (c : tie.Joined1) →
     let counted = c .before .before .before .before in
     let a = counted .before .before .before .before .before .before .before .args in
-    c .if1 .judged ≡ (c .before .all-between .result && leb (a .held + counted .entries .result) (length (a .loads .now)))
+    c .if1 .judged ≡ (c .before .all-between .result && leb (a .loaded + counted .entries .result) (length (a .loads .now)))
 tested c = ⊎-elim (λ w. rw (w .0 .taken) (w .1)) (λ w. rw (w .0 .left) (w .1 ∙ w .0 .left)) (c .if1 .came)
 
 judged-requires : tie.Need-judged-requires
@@ -67,7 +67,7 @@ entries-requires-2 c κs = search needs
 -- what is kept has room
 kept : (c : tie.After-entries2) →
     let a = c .before .before .before .before .before .before .before .before .before .before .before .before .before .args in
-    (c .entries2 .result ≤ 64) × (a .held + c .entries2 .result ≤ length (a .loads .now))
+    (c .entries2 .result ≤ 64) × (a .loaded + c .entries2 .result ≤ length (a .loads .now))
 kept c =
     let joined = c .before .before in
     let counted = joined .before .before .before .before in
@@ -78,7 +78,7 @@ kept c =
     rw (c .entries2 .ensures, c .before .judged .ensures) (
       omega (arith, count-room counted, counted .entries .ensures, kept-fewer q ok),
       kept-room
-          q ok (joined .before .all-between .result) (a .held) (counted .entries .result) (length (a .loads .now))
+          q ok (joined .before .all-between .result) (a .loaded) (counted .entries .result) (length (a .loads .now))
           (counted .entries .ensures) (tested joined) (start .pre .2),
     )
 
@@ -116,7 +116,7 @@ same-length c = search needs
 read : (c : tie.After-judged) →
     let line-in = c .before .before .before .before .before .before .before .stored-line in
     let a = c .before .before .before .before .before .before .before .before .before .before .before .before .args in
-    let f = loadLine (length (a .loads .now)) (a .items) (a .held) in
+    let f = loadLine (length (a .loads .now)) (a .items) (a .loaded) in
     ReadEntries (a .file .now) (line f) (padded 64) (a .p) (c .judged .result) (line-in .last .1 .1 .1 .1 .0)
 read c =
     let joined = c .before in
@@ -127,10 +127,10 @@ read c =
     let load = line-in .last .1 .1 .1 .1 .0 in
     let long : length load ≡ 64 = line-in .kept .1 .1 .1 .1 .0 in
     let most = length (a .loads .now) in
-    let f = loadLine most (a .items) (a .held) in
+    let f = loadLine most (a .items) (a .loaded) in
     let count = counted .entries .result in
-    let says = line-in .ensures .0 f refl refl refl (load-refuses-largest most (a .items) (a .held) (omega arith)) in
-    let fits = load-fits load most (a .items) (a .held) count (omega (arith, count-room counted)) in
+    let says = line-in .ensures .0 f refl refl refl (load-refuses-largest most (a .items) (a .loaded) (omega arith)) in
+    let fits = load-fits load most (a .items) (a .loaded) count (omega (arith, count-room counted)) in
     let ok : joined .if1 .judged ≡ f .fits (take (count - 0) load) = rw (joined .before .all-between .ensures) at (tested joined) ∙ fits in
     judged-entries
     (a .file .now) (replicate 64 0) load 1 f (padded 64) (a .p) long (λ k least room behind. zeros-behind 64 k load room long behind)
@@ -145,12 +145,12 @@ returns c =
     let start = ended .before .before .before .before .before .before .before .before .before .before .before .before .before in
     let a = start .args in
     let load = line-in .last .1 .1 .1 .1 .0 in
-    let f = loadLine (length (a .loads .now)) (a .items) (a .held) in
+    let f = loadLine (length (a .loads .now)) (a .items) (a .loaded) in
     let first = ended .entries2 .result - 0 in
-    let size = a .held + ended .entries2 .result - a .held in
+    let size = a .loaded + ended .entries2 .result - a .loaded in
     let many : length (take first load) ≡ size = length-take-le first load (omega (arith, kept ended)) ∙ omega arith in
-    let within = load-within (a .file .now) (a .loads .now) load (line f) 64 (a .held) first (a .p) (ended .before .judged .result) in (
-      rw (copied .copy-words .ensures, put-spliced (a .held) (a .loads .now) (take first load) size many)
+    let within = load-within (a .file .now) (a .loads .now) load (line f) 64 (a .loaded) first (a .p) (ended .before .judged .result) in (
+      rw (copied .copy-words .ensures, put-spliced (a .loaded) (a .loads .now) (take first load) size many)
           (within (omega (arith, ended .entries2 .ensures)) (read (ended .before))),
       rw (ended .entries2 .ensures) at (kept ended .1),
     )

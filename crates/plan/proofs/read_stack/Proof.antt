@@ -93,7 +93,7 @@ returns : tie.Need-returns
 returns c =
     let start = row c .before .before .before .before .before in
     let a = start .args in
-    stack-read (a .limits) (a .items) (a .trucks) (a .k) (a .held) (c .entries .result) (a .file .now) (a .part .now) (part c) (loads c)
+    stack-read (a .limits) (a .items) (a .trucks) (a .k) (a .loaded) (c .entries .result) (a .file .now) (a .part .now) (part c) (loads c)
     (a .p) (row c .read-stack-row .result) (load c .read-load .result)
     (omega arith) (omega arith) (start .pre .6) (row c .read-stack-row .kept .1 .1 .1 .1 .0) (load c .read-load .kept .1 .1 .1 .1 .0) (row c .read-stack-row .ensures)
     (load c .read-load .ensures .0) (load c .read-load .ensures .1) (c .entries .ensures)

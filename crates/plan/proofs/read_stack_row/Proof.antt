@@ -59,17 +59,17 @@ part-stack-in-range-end c = search needs
 stack-in-range-requires : tie.Need-stack-in-range-requires
 stack-in-range-requires c κs = search needs
 
-mul-is-taken : tie.Need-mul-is-taken
-mul-is-taken c = search needs
+mul-is-repeated : tie.Need-mul-is-repeated
+mul-is-repeated c = search needs
 
-slice-reshared-read-is-taken : tie.Need-slice-reshared-read-is-taken
-slice-reshared-read-is-taken c = search needs
+slice-reshared-read-is-repeated : tie.Need-slice-reshared-read-is-repeated
+slice-reshared-read-is-repeated c = search needs
 
-is-taken-requires : tie.Need-is-taken-requires
-is-taken-requires c κs = search needs
+is-repeated-requires : tie.Need-is-repeated-requires
+is-repeated-requires c κs = search needs
 
 -- the test that is made
-tested : (c : tie.Joined1) → c .if1 .judged ≡ (c .before .before .before .stack-in-range .result && not (c .before .is-taken .result))
+tested : (c : tie.Joined1) → c .if1 .judged ≡ (c .before .before .before .stack-in-range .result && not (c .before .is-repeated .result))
 tested c = ⊎-elim (λ w. rw (w .0 .taken) (w .1)) (λ w. rw (w .0 .left) (w .1 ∙ w .0 .left)) (c .if1 .came)
 
 judged-requires : tie.Need-judged-requires
@@ -90,12 +90,12 @@ returns c =
     let size = at + 6 - at in
     let row = line-in .last .1 .1 .1 .1 .0 in
     let same = line-in .kept .1 .1 .1 .1 .0 in
-    let taken = rowNumbers (a .k) (a .part .now) in
-    let f = stackLine (a .trucks) taken in
+    let earlier = rowNumbers (a .k) (a .part .now) in
+    let f = stackLine (a .trucks) earlier in
     let long : length row ≡ size = same ∙ mid-len at (at + 6) (a .part .now) (omega arith) in
     let fits = row-fits (a .part .now) row (a .trucks) (a .k) size (omega arith) long (omega arith) in
-    let ok : joined .if1 .judged ≡ f .fits row = rw (ranged .stack-in-range .ensures, sought .is-taken .ensures, fits) at (tested joined) in
-    let says = line-in .ensures .0 f refl refl (omega (arith, same)) (stack-refuses-largest (a .trucks) taken (omega arith)) in
+    let ok : joined .if1 .judged ≡ f .fits row = rw (ranged .stack-in-range .ensures, sought .is-repeated .ensures, fits) at (tested joined) in
+    let says = line-in .ensures .0 f refl refl (omega (arith, same)) (stack-refuses-largest (a .trucks) earlier (omega arith)) in
     let six : length row ≡ 6 = omega arith in
     rw (put-spliced at (a .part .now) row size long, c .judged .ensures)
     (read-within (a .file .now) (line f) (λ ns. ns) (a .p) _ row (λ fields. spliced at fields (a .part .now))
@@ -121,9 +121,9 @@ read-stack-row-spec =
     part-stack-in-range-start
     part-stack-in-range-end
     stack-in-range-requires
-    mul-is-taken
-    slice-reshared-read-is-taken
-    is-taken-requires
+    mul-is-repeated
+    slice-reshared-read-is-repeated
+    is-repeated-requires
     judged-requires
     same-length
     returns)

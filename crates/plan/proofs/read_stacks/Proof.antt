@@ -9,10 +9,10 @@ use Rattle.plan.proofs.read_stacks.Statement.{statement}
 use Rattle.plan.proofs.read_stacks.Tie as tie
 
 abbrev Inv-loop : tie.InvT-loop
-Inv-loop limits file items trucks count part₀ q₀ held₀ k₀ part q held k = SoFar limits items trucks count file q₀ part q held k
+Inv-loop limits file items trucks count part₀ q₀ loaded₀ k₀ part q loaded k = SoFar limits items trucks count file q₀ part q loaded k
 
 abbrev μ-loop : tie.MeasureT-loop
-μ-loop limits file items trucks count part₀ q₀ held₀ k₀ part q held k = count - k
+μ-loop limits file items trucks count part₀ q₀ loaded₀ k₀ part q loaded k = count - k
 
 clear-requires : tie.Need-clear-requires Inv-loop μ-loop
 clear-requires c κs = search needs
@@ -31,8 +31,8 @@ read-stack-requires c κs = search needs
 entries-requires : tie.Need-entries-requires Inv-loop μ-loop
 entries-requires c κs = search needs
 
-add-held : tie.Need-add-held Inv-loop μ-loop
-add-held c = search needs
+add-loaded : tie.Need-add-loaded Inv-loop μ-loop
+add-loaded c = search needs
 
 add-k : tie.Need-add-k Inv-loop μ-loop
 add-k c = search needs
@@ -64,7 +64,7 @@ read-stacks-spec =
     loop-holds
     read-stack-requires
     entries-requires
-    add-held
+    add-loaded
     add-k
     loop-less
     loop-again

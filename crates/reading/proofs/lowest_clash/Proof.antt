@@ -21,8 +21,8 @@ loop-holds c = none-yet (c .item-count .ensures .0)
 first-of-code-requires : tie.Need-first-of-code-requires Inv-loop μ-loop
 first-of-code-requires c κs = search needs
 
-same-base-requires : tie.Need-same-base-requires Inv-loop μ-loop
-same-base-requires c κs = search needs
+same-length-and-width-requires : tie.Need-same-length-and-width-requires Inv-loop μ-loop
+same-length-and-width-requires c κs = search needs
 
 sub-n : tie.Need-sub-n Inv-loop μ-loop
 sub-n c = search needs
@@ -35,7 +35,7 @@ loop-again c =
     let f = c .before .before in
     let l = f .before in
     let found = f .first-of-code .ensures .0 in
-    let test = c .before .same-base .ensures in
+    let test = c .before .same-length-and-width .ensures in
     ⊎-elim
     (λ w. rw (w .1) (clash-here (l .before .loop .inv) (l .loop-test .taken) found test (w .0 .taken)))
     (λ w. rw (w .1) (no-clash-here (l .before .loop .inv) (l .loop-test .taken) found test (w .0 .left)))
@@ -53,7 +53,7 @@ lowest-clash-spec =
     item-count-requires
     loop-holds
     first-of-code-requires
-    same-base-requires
+    same-length-and-width-requires
     sub-n
     loop-less
     loop-again

@@ -44,8 +44,8 @@ returns c =
     λ e. clear-behind (l .loop .inv) (d .before .before .loop-test .taken) (o .before .place-along .ensures .0) (d .before .place-along2 .ensures .0)
     (o .footprint-at .ensures) (d .footprint-at2 .ensures) (o .before .before .before .before .before .pre .0 .sorted) (c .if1 .taken)
 
-is-apart-requires : tie.Need-is-apart-requires Inv-loop μ-loop
-is-apart-requires c κs = search needs
+disjoint-requires : tie.Need-disjoint-requires Inv-loop μ-loop
+disjoint-requires c κs = search needs
 
 returns-2 : tie.Need-returns-2 Inv-loop μ-loop
 returns-2 c = λ e. absurd (true≢false (sym e))
@@ -64,7 +64,7 @@ loop-again c =
     let l = d .before .before .before in
     let o = l .before .before in
     clear-more (l .loop .inv) (d .before .before .loop-test .taken) (o .before .place-along .ensures .0) (d .before .place-along2 .ensures .0)
-    (o .footprint-at .ensures) (d .footprint-at2 .ensures) (c .before .is-apart .ensures) (c .if2 .left)
+    (o .footprint-at .ensures) (d .footprint-at2 .ensures) (c .before .disjoint .ensures) (c .if2 .left)
 
 returns-3 : tie.Need-returns-3 Inv-loop μ-loop
 returns-3 c = λ e. clear-last (c .before .loop .inv) (c .loop-test .left)
@@ -83,7 +83,7 @@ is-clear-spec =
     place-along-requires-2
     footprint-at-requires-2
     returns
-    is-apart-requires
+    disjoint-requires
     returns-2
     add-j-2
     loop-less

@@ -12,8 +12,8 @@ is-clear-requires c κs = search needs
 enum-told-2 : tie.Need-enum-told-2
 enum-told-2 c = search needs
 
-is-held-requires : tie.Need-is-held-requires
-is-held-requires c κs = search needs
+is-braced-requires : tie.Need-is-braced-requires
+is-braced-requires c κs = search needs
 
 enum-told-3 : tie.Need-enum-told-3
 enum-told-3 c = search needs
@@ -25,7 +25,7 @@ returns : tie.Need-returns
 returns c = λ e. rw (c .before .enum-told .given .1) (c .is-clear .ensures e)
 
 returns-2 : tie.Need-returns-2
-returns-2 c = λ e. rw (c .before .enum-told2 .given .1) (c .is-held .ensures e)
+returns-2 c = λ e. rw (c .before .enum-told2 .given .1) (c .is-braced .ensures e)
 
 returns-3 : tie.Need-returns-3
 returns-3 c = λ e. rw (c .before .enum-told3 .given .1) (c .is-in-order .ensures e)
@@ -37,7 +37,7 @@ is-kept-spec =
     enum-told
     is-clear-requires
     enum-told-2
-    is-held-requires
+    is-braced-requires
     enum-told-3
     is-in-order-requires
     returns

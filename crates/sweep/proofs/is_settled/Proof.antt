@@ -66,12 +66,12 @@ same-length-6 c = search needs
 
 returns-3 : tie.Need-returns-3
 returns-3 c =
-    let held = c .before .before .before in
-    let clear = held .before .before .before in
+    let braced = c .before .before .before in
+    let clear = braced .before .before .before in
     let sorted = clear .before .before .before .before in (
       (λ e. record {
-        overlap = clear .is-kept-by-all .ensures (not-false _ (held .before .before .if1 .left));
-        unbraced = held .is-kept-by-all2 .ensures (not-false _ (c .before .before .if2 .left));
+        overlap = clear .is-kept-by-all .ensures (not-false _ (braced .before .before .if1 .left));
+        unbraced = braced .is-kept-by-all2 .ensures (not-false _ (c .before .before .if2 .left));
         order = c .is-kept-by-all3 .ensures e;
       }),
       (sorted .before .before .before .before .before .put-x .ensures .1, sorted .sort .ensures .1),

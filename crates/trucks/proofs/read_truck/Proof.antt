@@ -24,8 +24,8 @@ after-clear c =
     let start = c .before .before .before .before in
     (_, _, front-cleared 160 (start .args .part .now) (c .clear .last .0) (start .pre .1) (c .clear .ensures))
 
-abbrev after-row : tie.After-read-truck-row → Upto 20
-after-row c = behind (after-clear (c .before .before .before .before)) 20 (c .read-truck-row .last .1 .1 .0) (omega arith) (c .read-truck-row .kept .1 .1 .0)
+abbrev after-row : tie.After-read-truck-fields → Upto 20
+after-row c = behind (after-clear (c .before .before .before .before)) 20 (c .read-truck-fields .last .1 .1 .0) (omega arith) (c .read-truck-fields .kept .1 .1 .0)
 
 abbrev after-products : tie.After-counted-line → Upto 53
 after-products c =
@@ -55,17 +55,17 @@ part-clear-end c = search needs
 clear-requires : tie.Need-clear-requires
 clear-requires c κs = search needs
 
-sub-read-truck-row : tie.Need-sub-read-truck-row
-sub-read-truck-row c = search needs
+sub-read-truck-fields : tie.Need-sub-read-truck-fields
+sub-read-truck-fields c = search needs
 
-part-read-truck-row-start : tie.Need-part-read-truck-row-start
-part-read-truck-row-start c = search needs
+part-read-truck-fields-start : tie.Need-part-read-truck-fields-start
+part-read-truck-fields-start c = search needs
 
-part-read-truck-row-end : tie.Need-part-read-truck-row-end
-part-read-truck-row-end c = search needs
+part-read-truck-fields-end : tie.Need-part-read-truck-fields-end
+part-read-truck-fields-end c = search needs
 
-read-truck-row-requires : tie.Need-read-truck-row-requires
-read-truck-row-requires c κs = search needs
+read-truck-fields-requires : tie.Need-read-truck-fields-requires
+read-truck-fields-requires c κs = search needs
 
 slice-aggregate-counted-line : tie.Need-slice-aggregate-counted-line
 slice-aggregate-counted-line c = search needs
@@ -152,7 +152,7 @@ returns c =
     let row = products .before .before .before .before .before in
     let entries = docks .before .before .entries in
     let nine = front-lent (after-docks docks .2) 9 (omega arith) in
-    truck-read (row .read-truck-row .ensures)
+    truck-read (row .read-truck-fields .ensures)
     (rw (front-lent (after-row row .2) 33 (omega arith)) at (products .counted-line .ensures "products=" refl))
     (rw (front-lent (after-products products .2) 9 (omega arith)) at (suppliers .counted-line2 .ensures "suppliers=" refl))
     (entries .result) (entries .ensures) (docks .read-docks .ensures)
@@ -167,10 +167,10 @@ read-truck-spec =
     part-clear-start
     part-clear-end
     clear-requires
-    sub-read-truck-row
-    part-read-truck-row-start
-    part-read-truck-row-end
-    read-truck-row-requires
+    sub-read-truck-fields
+    part-read-truck-fields-start
+    part-read-truck-fields-end
+    read-truck-fields-requires
     slice-aggregate-counted-line
     sub-counted-line
     part-counted-line-start

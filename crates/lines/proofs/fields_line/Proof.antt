@@ -3,13 +3,13 @@ use mathlib.Core.Path.{_≡_, sym, _∙_}
 use native.Mathlib.Omega.{arith}
 use lib.ListN.{length, length-take}
 use lib.Seq.{take-all}
-use Rattle.meaning.specs.Files.{rowLine}
+use Rattle.meaning.specs.Files.{fieldsLine}
 use Rattle.lines.specs.Progress.{ranges}
-use Rattle.lines.proofs.Largest.{refuses-row, length-ranges}
+use Rattle.lines.proofs.Largest.{refuses-fields, length-ranges}
 use Rattle.lines.proofs.Judging.{stored-room, judged-entries}
 use borrow.Author.Needs.{needs}
-use Rattle.lines.proofs.row_line.Statement.{statement}
-use Rattle.lines.proofs.row_line.Tie as tie
+use Rattle.lines.proofs.fields_line.Statement.{statement}
+use Rattle.lines.proofs.fields_line.Tie as tie
 
 stored-line-requires : tie.Need-stored-line-requires
 stored-line-requires c κs = search needs
@@ -52,14 +52,14 @@ returns c =
     let long : length out ≡ length (a .out .now) = l .stored-line .kept .1 .1 .1 .1 .0 in
     let size : length rs ≡ length (a .out .now) = length-ranges (a .lows .now) (a .highs .now) (s .pre .1 ∙ sym (s .pre .2)) ∙ s .pre .2 in
     λ k b.
-    judged-entries (a .file .now) (a .out .now) out (length (a .out .now)) (rowLine k rs) (λ ns. ns) (a .p) long
+    judged-entries (a .file .now) (a .out .now) out (length (a .out .now)) (fieldsLine k rs) (λ ns. ns) (a .p) long
     (λ m h i e. sym (take-all m out (omega arith)))
     (l .stored-line .result) _ (w .in-ranges .result) _
-    (l .stored-line .ensures .0 (rowLine k rs) b size size (refuses-row k (a .lows .now) (a .highs .now) (s .pre .3)))
+    (l .stored-line .ensures .0 (fieldsLine k rs) b size size (refuses-fields k (a .lows .now) (a .highs .now) (s .pre .3)))
     (l .stored-line .ensures .1 .0) (l .stored-line .ensures .1 .1) (n .entries .ensures) (w .in-ranges .ensures) (c .judged .ensures)
 
-pub row-line-spec : {M : Type 1} → statement M
-row-line-spec =
+pub fields-line-spec : {M : Type 1} → statement M
+fields-line-spec =
     tie.close
     (tie.spec
     stored-line-requires

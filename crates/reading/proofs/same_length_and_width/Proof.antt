@@ -1,10 +1,10 @@
--- Two items compared by length, then by width, are compared as `sameBase` compares them.
+-- Two items compared by length, then by width, are compared as `sameLengthAndWidth` compares them.
 use borrow.Author.Needs.{needs}
 use Rattle.meaning.specs.Model.{item}
 use Rattle.meaning.specs.Table.{instanceIn}
 use Rattle.reading.proofs.Clashes.{same-lengths, other-lengths}
-use Rattle.reading.proofs.same_base.Statement.{statement}
-use Rattle.reading.proofs.same_base.Tie as tie
+use Rattle.reading.proofs.same_length_and_width.Statement.{statement}
+use Rattle.reading.proofs.same_length_and_width.Tie as tie
 
 item-field-requires : tie.Need-item-field-requires
 item-field-requires c κs = search needs
@@ -32,8 +32,8 @@ returns-2 c =
     let i = instanceIn (a .limits) (a .t .now) in
     other-lengths (item i (a .n)) (item i (a .k)) (c .before .before .item-field .ensures .0) (c .before .item-field2 .ensures .0) (c .if1 .left)
 
-pub same-base-spec : {M : Type 1} → statement M
-same-base-spec =
+pub same-length-and-width-spec : {M : Type 1} → statement M
+same-length-and-width-spec =
     tie.close
     (tie.spec
     item-field-requires

@@ -1,12 +1,12 @@
--- `sweep::is_held`: a stack at the front wall is held, and so is one that touches the end of another.
+-- `sweep::is_braced`: a stack at the front wall is braced, and so is one that is in contact with the end of another.
 use mathlib.Core.Path.{sym}
 use Prim.Native.Nat.{_≤_}
 use borrow.Author.Needs.{needs}
 use Rattle.meaning.specs.Table.{instanceIn}
 use Rattle.meaning.proofs.Tests.{true≢false}
-use Rattle.pairrules.proofs.Unbraced.{at-front, held-found}
-use Rattle.sweep.proofs.is_held.Statement.{statement}
-use Rattle.sweep.proofs.is_held.Tie as tie
+use Rattle.pairrules.proofs.Unbraced.{at-front, brace-found}
+use Rattle.sweep.proofs.is_braced.Statement.{statement}
+use Rattle.sweep.proofs.is_braced.Tie as tie
 
 abbrev Inv-loop : tie.InvT-loop
 Inv-loop t limits rows on along k place ground j₀ j = j ≤ k
@@ -40,8 +40,8 @@ place-along-requires-2 c κs = search needs
 footprint-at-requires-2 : tie.Need-footprint-at-requires-2 Inv-loop μ-loop
 footprint-at-requires-2 c κs = search needs
 
-braces-requires : tie.Need-braces-requires Inv-loop μ-loop
-braces-requires c κs = search needs
+in-contact-requires : tie.Need-in-contact-requires Inv-loop μ-loop
+in-contact-requires c κs = search needs
 
 returns-2 : tie.Need-returns-2 Inv-loop μ-loop
 returns-2 c e =
@@ -52,8 +52,8 @@ returns-2 c e =
     let v = l .place-along2 .ensures in
     let i = instanceIn (s .args .limits) (s .args .t .now) in
     rw (sym (w .0))
-    (sym (held-found i (s .pre .0 .one) (w .1, w .2) (g .footprint-at .ensures)
-    (v .1, v .2) (c .before .before .footprint-at2 .ensures) (c .before .braces .ensures) (c .if2 .taken)))
+    (sym (brace-found i (s .pre .0 .one) (w .1, w .2) (g .footprint-at .ensures)
+    (v .1, v .2) (c .before .before .footprint-at2 .ensures) (c .before .in-contact .ensures) (c .if2 .taken)))
 
 loop-less : tie.Need-loop-less Inv-loop μ-loop
 loop-less c = search needs
@@ -64,8 +64,8 @@ loop-again c = search needs
 returns-3 : tie.Need-returns-3 Inv-loop μ-loop
 returns-3 c e = absurd (true≢false (sym e))
 
-pub is-held-spec : {M : Type 1} → statement M
-is-held-spec =
+pub is-braced-spec : {M : Type 1} → statement M
+is-braced-spec =
     tie.close
     (tie.spec
     Inv-loop
@@ -77,7 +77,7 @@ is-held-spec =
     sub-j
     place-along-requires-2
     footprint-at-requires-2
-    braces-requires
+    in-contact-requires
     returns-2
     loop-less
     loop-again
