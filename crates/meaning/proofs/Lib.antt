@@ -14,6 +14,8 @@ pub mod Digits
 pub mod Printed
 pub mod Ranges
 pub mod ReadBack
+pub mod Linewise
+pub mod Stopped
 pub mod Fields
 pub mod ReadExactly
 pub mod Decode

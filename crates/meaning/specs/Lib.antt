@@ -13,6 +13,7 @@ pub mod Check
 pub mod BadLine
 pub mod Feasible
 pub mod Reorder
+pub mod Stopped
 pub mod Print
 pub mod InRange
 pub mod Claims
