@@ -38,19 +38,24 @@ module _ (i : Instance) where
   abbrev LikeFirst : Type 0
   LikeFirst = (a : Item) → In a (i .items) → (IL a ≡ IL (firstWith (IS a))) × (IW a ≡ IW (firstWith (IS a)))
 
+  -- the items are those with the numbers from 1 on
+  numbered : (a : Item) → In a (i .items) → (n : ℕ) × In n (upFrom 1 (length (i .items))) × (item i n ≡ a)
+  numbered a m =
+      let w = in-at [] (i .items) a m in
+      (suc (w .0), in-upFrom 1 (length (i .items)) (suc (w .0)) .1 (omega (arith, w .1)), rw (one-back (w .0)) (sym (w .2)))
+
+  number-item : (n : ℕ) → In n (upFrom 1 (length (i .items))) → In (item i n) (i .items)
+  number-item n m = at-in (i .items) [] (n - 1) (omega (arith, in-upFrom 1 (length (i .items)) n .0 m))
+
   clashes-none : (codeClashes i ≡ []) ↔ LikeFirst
   unfolding codeClashes
   clashes-none =
       let none = flatMap-none _ (upFrom 1 (length (i .items))) in (
         (λ e a m.
-            let w = in-at [] (i .items) a m in
-            let is : item i (suc (w .0)) ≡ a = rw (one-back (w .0)) (sym (w .2)) in
-            let listed = in-upFrom 1 (length (i .items)) (suc (w .0)) .1 (omega (arith, w .1)) in
-            let same = unless-none _ _ .0 (none .0 e (suc (w .0)) listed) in
-            same-reads a (firstWith (IS a)) .0 (subst (λ (b : Item). sameLengthAndWidth b (firstWith (IS b)) ≡ true) is same)),
-        (λ h. none .1 (λ n m.
-            let inside = in-upFrom 1 (length (i .items)) n .0 m in
-            unless-none _ _ .1 (same-reads (item i n) (item i (firstOfCode i n)) .1 (h (item i n) (at-in (i .items) [] (n - 1) (omega (arith, inside))))))),
+            let w = numbered a m in
+            let same = unless-none _ _ .0 (none .0 e (w .0) (w .1)) in
+            same-reads a (firstWith (IS a)) .0 (subst (λ (b : Item). sameLengthAndWidth b (firstWith (IS b)) ≡ true) (w .2) same)),
+        (λ h. none .1 (λ n m. unless-none _ _ .1 (same-reads (item i n) (item i (firstOfCode i n)) .1 (h (item i n) (number-item n m))))),
       )
 
   -- the first item of a code that an item has is an item, and has that code

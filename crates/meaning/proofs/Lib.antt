@@ -17,6 +17,8 @@ pub mod InRange
 pub mod Ranges
 pub mod ReadBack
 pub mod Clash
+pub mod Linewise
+pub mod Stopped
 pub mod ReadExactly
 pub mod Decode
 pub mod TableAfter

@@ -46,7 +46,7 @@ leaves-map P Q f (outOfRange n) h = tt
 
 -- ---- what a line leaves
 -- bytes with a byte 10 among them are the first line, its byte 10, and the rest
-first-line : (bs : List ℕ) → countBefore 10 bs < length bs → bs ≡ take (countBefore 10 bs) bs ++ 10 ∷ drop (suc (countBefore 10 bs)) bs
+pub first-line : (bs : List ℕ) → countBefore 10 bs < length bs → bs ≡ take (countBefore 10 bs) bs ++ 10 ∷ drop (suc (countBefore 10 bs)) bs
 unfolding countBefore
 first-line [] h = absurd (not-suc-le-zero h)
 first-line (b ∷ bs) h = go (first-line bs) (eqb b 10) refl h
@@ -90,12 +90,12 @@ unfolding any
 not-listed c b l h = let t = or-false (eqb c b) (listed c l) .0 h in (ne-eqb b c (λ e. eqb-false c b (t .0) (sym e)), t .1)
 
 -- the first byte 10 after a line is the one that ends it
-count-line : (l rest : List ℕ) → OneLine l → countBefore 10 (l ++ 10 ∷ rest) ≡ length l
+pub count-line : (l rest : List ℕ) → OneLine l → countBefore 10 (l ++ 10 ∷ rest) ≡ length l
 unfolding countBefore
 count-line [] rest h = refl
 count-line (b ∷ l) rest h = let t = not-listed 10 b l h in rw (t .0, count-line l rest (t .1))
 
-drop-line : (l rest : List ℕ) → drop (suc (length l)) (l ++ 10 ∷ rest) ≡ rest
+pub drop-line : (l rest : List ℕ) → drop (suc (length l)) (l ++ 10 ∷ rest) ≡ rest
 drop-line [] rest = refl
 drop-line (b ∷ l) rest = drop-line l rest
 
@@ -106,7 +106,7 @@ take-ended f l rest h =
     let long : length l < length (l ++ 10 ∷ rest) = omega (arith, length-append l (10 ∷ rest)) in
     rw (append-assoc, count-line l rest h, lt-reads (length l) (length (l ++ 10 ∷ rest)) .1 long, drop-line l rest, take-append-seam l (10 ∷ rest))
 
-line-ended : (f : Form) (l rest : List ℕ) (n : ℕ) → OneLine l → line f n (ended l ++ rest) ≡ atLine n (judgedLine f rest (lineNumbers (f .key) l))
+pub line-ended : (f : Form) (l rest : List ℕ) (n : ℕ) → OneLine l → line f n (ended l ++ rest) ≡ atLine n (judgedLine f rest (lineNumbers (f .key) l))
 unfolding line
 line-ended f l rest n h = ap (atLine n) (take-ended f l rest h)
 

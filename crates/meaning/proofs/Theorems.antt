@@ -8,6 +8,7 @@ use Rattle.meaning.proofs.Printed.{read-printed}
 use Rattle.meaning.proofs.ReadExactly.{read-exactly}
 use Rattle.meaning.proofs.Decode.{decodes}
 use Rattle.meaning.proofs.TableAfter.{table-after, read-refused}
+use Rattle.meaning.proofs.Stopped.{handed-back-refused}
 use Rattle.meaning.proofs.Readable.{readable-exactly, decided}
 use Rattle.meaning.proofs.Feasible.{accepted-when-feasible}
 use Rattle.meaning.proofs.AnyOrder.{order-free, any-order}
@@ -24,6 +25,7 @@ theorems m =
       readRefused = read-refused m;
       decodes = decodes m;
       tableAfter = table-after m;
+      handedBackRefused = handed-back-refused m;
       readableExactly = readable-exactly m;
       decided = decided m;
       acceptedWhenFeasible = accepted-when-feasible m;

@@ -18,6 +18,7 @@ use Rattle.meaning.specs.Verdict.{cost}
 use Rattle.meaning.specs.Check.{refused, readable, readFiles, answer, tableAfter}
 use Rattle.meaning.specs.Feasible.{Feasible}
 use Rattle.meaning.specs.Reorder.{Reordered}
+use Rattle.meaning.specs.Stopped.{HandedBackRefused}
 use Rattle.meaning.specs.Print.{printedInstance, printedPlan}
 use Rattle.meaning.specs.Files.{Field, itemFields, truckFields, stackFields}
 use Rattle.meaning.specs.InRange.{InRange, NoClash, Fits}
@@ -238,6 +239,7 @@ pub record Theorems (m : Limits) : Type 0 where
   pub readRefused : ReadRefused m
   pub decodes : Decodes m
   pub tableAfter : TableAfter m
+  pub handedBackRefused : HandedBackRefused m
   pub readableExactly : ReadableExactly m
   pub decided : Decided m
   pub acceptedWhenFeasible : AcceptedWhenFeasible m

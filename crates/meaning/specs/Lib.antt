@@ -13,6 +13,7 @@ pub mod Check
 pub mod BadLine
 pub mod Feasible
 pub mod Reorder
+pub mod Stopped
 pub mod Print
 pub mod Meets
 pub mod InRange
