@@ -45,8 +45,8 @@ fn numbers(words: &str) -> Vec<u32> {
 
 #[test]
 fn an_accepted_plan_is_told_with_its_cost() {
-    let printed_load = "0 accepted: cost 248000 thousandths, used trucks 1";
-    assert_eq!(sentence(&accepted(248_000, 1)), printed_load);
+    let example_load = "0 accepted: cost 248000 thousandths, used trucks 1";
+    assert_eq!(sentence(&accepted(248_000, 1)), example_load);
     let above_32_bits = "0 accepted: cost 4294967296 thousandths, used trucks 256";
     assert_eq!(sentence(&accepted(4_294_967_296, 256)), above_32_bits);
 }

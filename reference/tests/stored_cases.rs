@@ -49,7 +49,7 @@ fn the_stored_cases_are_those_of_the_generator() {
 #[test]
 fn the_program_is_run_on_the_shipped_example() {
     let root = Path::new(env!("CARGO_MANIFEST_DIR")).join("..");
-    same_files(&root.join("crates/loadcheck/data"), &root.join("examples/printed"));
+    same_files(&root.join("crates/loadcheck/data"), &root.join("examples/one_load"));
 }
 
 #[test]

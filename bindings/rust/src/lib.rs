@@ -1,8 +1,8 @@
 //! The load plan check for Rust: safe calls of the proved static library.
 //!
 //! ```
-//! let instance = include_bytes!("../../../examples/printed/instance.txt");
-//! let plan = include_bytes!("../../../examples/printed/plan.txt");
+//! let instance = include_bytes!("../../../examples/one_load/instance.txt");
+//! let plan = include_bytes!("../../../examples/one_load/plan.txt");
 //! let mut table = [0; kaqlluwe::TABLE_WORDS];
 //! let answer = kaqlluwe::check(instance, plan, &mut table);
 //! assert_eq!((answer.number, answer.cost, answer.trucks), (0, 248_000, 1));

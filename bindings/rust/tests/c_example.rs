@@ -11,7 +11,7 @@ fn the_example_in_c_prints_the_answer_and_the_bad_line() {
     let refused = "number=7\nfirst=2\nsecond=0\nthird=0\ncost=0\ntrucks=0\nstack=1,1,0,0,1\n".to_string();
     let example = built("example");
     for (folder, printed, status) in [
-        ("examples/printed", accepted, 0),
+        ("examples/one_load", accepted, 0),
         ("crates/loadwhy/data/07-plan-form", refused, 1),
     ] {
         let run = Command::new(&example).arg(in_repository(folder)).output().unwrap();

@@ -219,10 +219,10 @@ fn axle_holds(axle: Axle, t: &[u32], limits: Limits, rows: &[u32], cargo: Cargo)
     requires { ⌜ CargoIn limits (now t) (now rows) cargo ⌝ }
     ensures { λ r. ⌜ r ≡ ofCargo (axleTest axle) limits (now (t .entry)) cargo ⌝ }
 {
-    let held = axles_under(t, limits, rows, cargo);
+    let holds = axles_under(t, limits, rows, cargo);
     match axle {
-        Axle::Middle => held.middle,
-        Axle::Rear => held.rear,
+        Axle::Middle => holds.middle,
+        Axle::Rear => holds.rear,
     }
 }
 
@@ -279,8 +279,8 @@ fn departure_holds(t: &[u32], limits: Limits, rows: &[u32], cargo: Cargo) -> boo
     ensures { λ r. ⌜ (r ≡ true → (axle : Axle) → (counts (cargoStacks limits (now (t .entry)) cargo)
         && not (ofCargo (axleTest axle) limits (now (t .entry)) cargo)) ≡ false) ⌝ }
 {
-    let held = axles_under(t, limits, rows, cargo);
-    if held.middle & held.rear {
+    let holds = axles_under(t, limits, rows, cargo);
+    if holds.middle & holds.rear {
         return true;
     }
     !departure_counts(t, limits, rows, cargo)

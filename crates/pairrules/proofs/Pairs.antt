@@ -72,7 +72,7 @@ self-in-order i s = sym (front-kept i s s refl refl (omega arith))
 record Broken (kept : Stack → Stack → Bool) (p : List Stack) (start end j k : ℕ) : Type 0 where
   first : Inside start end j
   second : Inside start end k
-  apart : j ≡ k → ⊥
+  differ : j ≡ k → ⊥
   breaks : kept (visitAt p j) (visitAt p k) ≡ false
 
 module _ (kept : Instance → Stack → Stack → Bool) (i : Instance) {p : List Stack} {start end : ℕ} (one : OneTruck p start end) where
@@ -84,7 +84,7 @@ module _ (kept : Instance → Stack → Stack → Bool) (i : Instance) {p : List
   pair-listed j k h =
       let s = visitAt p j in
       let r = visitAt p k in
-      let other : not (eqb k j) ≡ true = not-reads (eqb k j) .1 (λ e. h .apart (sym (eqb-true k j e))) in
+      let other : not (eqb k j) ≡ true = not-reads (eqb k j) .1 (λ e. h .differ (sym (eqb-true k j e))) in
       let test : (another s r && not (kept i s r)) ≡ true = rw (another-at one j k (h .first) (h .second), h .breaks, other) refl in
       in-flatMap _ (block p start end) (asPlace j k) .1 (
         s,
@@ -107,7 +107,7 @@ module _ (kept : Instance → Stack → Stack → Bool) (i : Instance) {p : List
         record {
           first = (a .1, a .2);
           second = (b .1, b .2);
-          apart = λ q. another-reads (w .0) (v .0) .0 (h .0) .1 (ap number (a .3 ∙ ap (visitAt p) q ∙ sym (b .3)));
+          differ = λ q. another-reads (w .0) (v .0) .0 (h .0) .1 (ap number (a .3 ∙ ap (visitAt p) q ∙ sym (b .3)));
           breaks = sym (ap₂ (kept i) (a .3) (b .3)) ∙ breaks;
         },
         e .1 ∙ ap₂ (λ (s r : Stack). place (number s) (number r) 0) (a .3) (b .3),
@@ -183,7 +183,7 @@ module _ {i : Instance} {p : List Stack} {start end : ℕ} where
             record {
               first = (h .rows .from, upa);
               second = (partners-inside rule start a b (h .rows .from) (l .row .from), upb);
-              apart = other-place rule i p start a b (l .row .from) breaks;
+              differ = other-place rule i p start a b (l .row .from) breaks;
               breaks = breaks;
             }
 
@@ -191,12 +191,12 @@ module _ {i : Instance} {p : List Stack} {start end : ℕ} where
             → Before (place (number (visitAt p j)) (number (visitAt p k)) 0) (place (number (visitAt p a)) (number (visitAt p b)) 0) → ⊥
         none-before j k w (inl less) =
             let earlier = place-lower one j a (w .first) (found-pair .first) less in
-            true≢false (sym (h .rows .each j (w .first .0) earlier k (w .second) (w .apart)) ∙ w .breaks)
+            true≢false (sym (h .rows .each j (w .first .0) earlier k (w .second) (w .differ)) ∙ w .breaks)
         none-before j k w (inr (same, inl less)) =
             let row = place-once one j a (w .first) (found-pair .first) same in
             let earlier = place-lower one k b (w .second) (found-pair .second) less in
             true≢false
-            (sym (with-each l upa k (w .second .0) earlier (λ q. w .apart (row ∙ q))) ∙ ap (λ n. pairTest rule i (visitAt p n) (visitAt p k)) (sym row)
+            (sym (with-each l upa k (w .second .0) earlier (λ q. w .differ (row ∙ q))) ∙ ap (λ n. pairTest rule i (visitAt p n) (visitAt p k)) (sym row)
             ∙ w .breaks)
         none-before j k w (inr (same, inr (same′, less))) = omega arith
 
@@ -211,4 +211,4 @@ module _ {i : Instance} {p : List Stack} {start end : ℕ} where
           found-none _ (λ q m.
           let w = listed-pair (pairTest rule) i one q m in
           let b = w .2 in
-          true≢false (sym (h .rows .each (w .0) (b .first .0) (omega (arith, b .first)) (w .1) (b .second) (b .apart)) ∙ b .breaks))
+          true≢false (sym (h .rows .each (w .0) (b .first .0) (omega (arith, b .first)) (w .1) (b .second) (b .differ)) ∙ b .breaks))

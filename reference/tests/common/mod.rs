@@ -1,4 +1,4 @@
-//! The printed load, which is the repository's example, and small helpers the tests share.
+//! Document 01's load, which is the repository's example, and small helpers the tests share.
 
 #![allow(dead_code)] // each test file uses a part
 
@@ -7,8 +7,8 @@ pub mod generator;
 use reference::table::NAMED_WORDS;
 use reference::{check, Answer};
 
-pub const INSTANCE: &str = include_str!("../../../examples/printed/instance.txt");
-pub const PLAN: &str = include_str!("../../../examples/printed/plan.txt");
+pub const INSTANCE: &str = include_str!("../../../examples/one_load/instance.txt");
+pub const PLAN: &str = include_str!("../../../examples/one_load/plan.txt");
 
 pub fn answer(instance: &str, plan: &str) -> Answer {
     check(instance.as_bytes(), plan.as_bytes(), &mut vec![7; NAMED_WORDS])

@@ -1,4 +1,4 @@
-//! The printed load and its ten edits.
+//! Document 01's load and its ten edits.
 
 mod common;
 
