@@ -17,4 +17,5 @@ pub mod Print
 pub mod InRange
 pub mod Claims
 pub mod Example
+pub mod ExampleRules
 pub mod Examples
