@@ -11,7 +11,7 @@ use Rattle.meaning.specs.BadLine.{inInstance, inPlan, handedBack}
 use Rattle.meaning.specs.Print.{commaJoined}
 use Rattle.meaning.specs.Example.{lines, fileOf, AsExpected, exampleInstance, examplePlan, tenEdits, readH}
 use Rattle.meaning.specs.ExampleRules.{unevenInstance, unevenPlan, ruleCases, rulePairs, clashCases}
-use Rattle.meaning.specs.Examples.{readingCases, examplePart, gapPart, Run, wordsThere, unevenWords}
+use Rattle.meaning.specs.Examples.{readingCases, examplePart, exampleBytes, gapPart, Run, wordsThere, unevenWords}
 
 -- ---- the ten edits, and H
 pub ten-edits : AsExpected exampleInstance examplePlan tenEdits
@@ -80,18 +80,27 @@ pub no-stacks : answer small 8976 (fileOf exampleInstance) (fileOf (lines ("stac
 unfolding answer
 no-stacks = refl
 
--- ---- the line handed back: line 3 of the instance and of the plan, the unended line, another number, lines that are not there
+-- ---- the line handed back: line 3 of the instance and of the plan, the unended line, other numbers, lines that are not there
 pub bad-lines :
-    examplePart 5 3 ∷ examplePart 8 3 ∷ examplePart 7 4 ∷ examplePart 9 3 ∷ examplePart 4 13 ∷ examplePart 7 0 ∷ []
+    examplePart 5 3 ∷ examplePart 8 3 ∷ examplePart 7 4 ∷ examplePart 3 3 ∷ examplePart 6 3 ∷ examplePart 9 3 ∷ examplePart 4 13 ∷ examplePart 7 0 ∷ []
     ≡ record { file = inInstance; span = record { start = 24; end = 33 } }
     ∷ record { file = inPlan; span = record { start = 27; end = 35 } }
     ∷ record { file = inPlan; span = record { start = 36; end = 40 } }
     ∷ record { file = inInstance; span = record { start = 291; end = 291 } }
     ∷ record { file = inInstance; span = record { start = 291; end = 291 } }
     ∷ record { file = inInstance; span = record { start = 291; end = 291 } }
+    ∷ record { file = inInstance; span = record { start = 291; end = 291 } }
+    ∷ record { file = inInstance; span = record { start = 291; end = 291 } }
     ∷ []
 unfolding handedBack
 bad-lines = refl
+
+-- their bytes
+pub bad-line-bytes :
+    exampleBytes (examplePart 4 3) ∷ exampleBytes (examplePart 7 3) ∷ exampleBytes (examplePart 8 4) ∷ exampleBytes (examplePart 0 1) ∷ []
+    ≡ bytes "extra=200" ∷ bytes "load=1,2" ∷ bytes "left" ∷ [] ∷ []
+unfolding handedBack
+bad-line-bytes = refl
 
 -- an empty line in the middle of either file: that line, and the one after it
 pub empty-lines :

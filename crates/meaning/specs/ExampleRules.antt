@@ -92,7 +92,8 @@ ofStack17 k v = entry 10 k v
 -- ---- each rule broken alone, and not broken where it is met exactly
 abbrev pub ruleCases : List Case
 ruleCases =
-    -- the load as it stands: every limit of truck 2 but the axles' is met exactly, and both axle limits of truck 1. Its first departure has no stack on
+    -- the load as it stands. Truck 2 meets all its limits but the axles' exactly; truck 1 both axles' and its load limit. The first departure of truck 1 has
+    -- no stack on: it would be too heavy for the rear axle, and does not count
     edits [] [] (record { number = 0; first = 0; second = 0; third = 0; cost = 4808500; trucks = 3 })
     -- cost: without αT, without αI, without αE, and with truck 1 as an extra
     ∷ edits (line 1 "transport=0" ∷ []) [] (record { number = 0; first = 0; second = 0; third = 0; cost = 1221000; trucks = 3 })
@@ -138,17 +139,19 @@ ruleCases =
     -- 21: stacks 25 and 31 too dense; item 7 with 990 kg on 0.999999 square metres
     ∷ edits (ofTruck2 9 "989" ∷ []) [] (record { number = 21; first = 25; second = 989; third = 0; cost = 0; trucks = 0 })
     ∷ edits (ofItem 7 5 "990" ∷ []) [] (record { number = 21; first = 25; second = 990; third = 0; cost = 0; trucks = 0 })
-    -- 22: length, width, height, each by a millimetre; then two sides of stack 12
+    -- 22: length, width, height, each by a millimetre ("taking the top item's nesting for the bottom's" would refuse the load itself); then two sides of
+    -- stack 12
     ∷ edits (ofTruck2 1 "truck=3449" ∷ []) [] (record { number = 22; first = 40; second = 1; third = 0; cost = 0; trucks = 0 })
     ∷ edits (ofTruck2 2 "2079" ∷ []) [] (record { number = 22; first = 12; second = 2; third = 0; cost = 0; trucks = 0 })
     ∷ edits (ofTruck2 3 "1694" ∷ []) [] (record { number = 22; first = 31; second = 3; third = 0; cost = 0; trucks = 0 })
     ∷ edits (ofTruck2 1 "truck=2049" ∷ ofTruck2 2 "2079" ∷ []) [] (record { number = 22; first = 12; second = 1; third = 0; cost = 0; trucks = 0 })
     ∷ edits (ofTruck2 2 "2079" ∷ ofTruck2 3 "1134" ∷ []) [] (record { number = 22; first = 12; second = 2; third = 0; cost = 0; trucks = 0 })
-    -- 23: stacks 31 and 12 side by side at one x, and a millimetre too near; three stacks over one another
+    -- 23: stacks 31 and 12 side by side at one x, and a millimetre too near ("dropping P2 when two x are equal"); three stacks over one another
     ∷ edits [] (ofStack12 4 "0" ∷ ofStack12 5 "830" ∷ ofStack40 4 "1250" ∷ []) (record { number = 0; first = 0; second = 0; third = 0; cost = 4808500; trucks = 3 })
     ∷ edits [] (ofStack12 4 "0" ∷ ofStack12 5 "829" ∷ ofStack40 4 "1250" ∷ []) (record { number = 23; first = 12; second = 31; third = 0; cost = 0; trucks = 0 })
     ∷ edits [] (ofStack12 4 "0" ∷ ofStack12 5 "30" ∷ ofStack40 4 "0" ∷ []) (record { number = 23; first = 12; second = 31; third = 0; cost = 0; trucks = 0 })
-    -- 24: off the corner of the stack before, on either side; before its end and behind it; behind a stack of the other copy alone
+    -- 24: the load as it stands has two stacks at a corner ("A corner is enough"). Off that corner, on either side; before the end of the stack in
+    -- front and behind it; behind a stack of the other copy alone
     ∷ edits [] (ofStack31 5 "29" ∷ []) (record { number = 24; first = 12; second = 0; third = 0; cost = 0; trucks = 0 })
     ∷ edits [] (ofStack40 5 "69" ∷ []) (record { number = 24; first = 40; second = 0; third = 0; cost = 0; trucks = 0 })
     ∷ edits [] (ofStack40 4 "2049" ∷ []) (record { number = 24; first = 40; second = 0; third = 0; cost = 0; trucks = 0 })
@@ -157,21 +160,24 @@ ruleCases =
     -- 25 (1): stack 40 of the first supplier. (2): supplier docks the other way round
     ∷ edits (ofItem 1 14 "54" ∷ ofItem 1 15 "33" ∷ []) [] (record { number = 25; first = 40; second = 12; third = 0; cost = 0; trucks = 0 })
     ∷ edits (line 25 "docks=38,35,36" ∷ []) [] (record { number = 25; first = 12; second = 31; third = 0; cost = 0; trucks = 0 })
-    -- 25 (3): one supplier dock, plant docks 92 and 95 before 95, then after 95; all of them 95
+    -- 25 (3): one supplier dock, plant docks 92 and 95 before 95, then after 95; all of them 95; one dock number of two suppliers
     ∷ edits (ofItem 3 15 "36" ∷ ofItem 8 15 "36" ∷ []) [] (record { number = 0; first = 0; second = 0; third = 0; cost = 4808500; trucks = 3 })
     ∷ edits (ofItem 3 15 "36" ∷ ofItem 8 15 "36" ∷ line 27 "plantdocks=93,95,92,91" ∷ []) [] (record { number = 25; first = 12; second = 31; third = 0; cost = 0; trucks = 0 })
     ∷ edits (ofItem 3 15 "36" ∷ ofItem 8 15 "36" ∷ ofItem 4 13 "95" ∷ ofItem 6 13 "95" ∷ []) []
     (record { number = 0; first = 0; second = 0; third = 0; cost = 4808500; trucks = 3 })
+    ∷ edits (ofItem 1 15 "35" ∷ ofItem 3 15 "35" ∷ ofItem 8 15 "35" ∷ line 27 "plantdocks=93,91,92,95" ∷ []) []
+    (record { number = 0; first = 0; second = 0; third = 0; cost = 4808500; trucks = 3 })
     -- 26: a kilogram too much, on truck 2 as an extra, and on truck 1 as well
     ∷ edits (ofTruck2 4 "2059" ∷ []) [] (record { number = 26; first = 2; second = 5; third = 0; cost = 0; trucks = 0 })
     ∷ edits (ofTruck1 4 "529" ∷ ofTruck2 4 "2059" ∷ []) [] (record { number = 26; first = 1; second = 0; third = 0; cost = 0; trucks = 0 })
-    -- 27: truck 1, missed by a kilogram; truck 2, whose copy 5 bears 4232.0002 kg at departure 3, 4180.2 kg at departure 4, and copy 0 4077.1 kg
+    -- 27: truck 1, missed by a kilogram. The middle axle of truck 2 bears 4232.0002 kg at departure 3 of copy 5 ("dividing before comparing"), less at
+    -- departure 4 ("testing axles at the last departure only") and 4077.1 kg at copy 0
     ∷ edits (ofTruck1 20 "4502" ∷ []) [] (record { number = 27; first = 1; second = 0; third = 2; cost = 0; trucks = 0 })
     ∷ edits (ofTruck2 20 "4233" ∷ []) [] (record { number = 0; first = 0; second = 0; third = 0; cost = 4808500; trucks = 3 })
     ∷ edits (ofTruck2 20 "4232" ∷ []) [] (record { number = 27; first = 2; second = 5; third = 3; cost = 0; trucks = 0 })
     ∷ edits (ofTruck2 20 "4100" ∷ []) [] (record { number = 27; first = 2; second = 5; third = 3; cost = 0; trucks = 0 })
     ∷ edits (ofTruck2 20 "4000" ∷ []) [] (record { number = 27; first = 2; second = 0; third = 2; cost = 0; trucks = 0 })
-    -- 28: truck 1, missed by a kilogram; truck 2, whose copy 5 bears 1659.8 kg at departure 4
+    -- 28: truck 1, missed by a kilogram. The rear axle of truck 2 bears 1659.8 kg at departure 4 of copy 5, where stack 40 lies behind it
     ∷ edits (ofTruck1 19 "1162" ∷ []) [] (record { number = 28; first = 1; second = 0; third = 2; cost = 0; trucks = 0 })
     ∷ edits (ofTruck2 19 "1660" ∷ []) [] (record { number = 0; first = 0; second = 0; third = 0; cost = 4808500; trucks = 3 })
     ∷ edits (ofTruck2 19 "1659" ∷ []) [] (record { number = 28; first = 2; second = 5; third = 4; cost = 0; trucks = 0 })

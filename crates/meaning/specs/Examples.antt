@@ -3,7 +3,7 @@ use mathlib.Core.List.{List, [], _∷_, _++_}
 use Prim.Native.Nat.{ℕ}
 use lib.ListN.{length, take, drop}
 use Rattle.meaning.specs.Text.{bytes}
-use Rattle.meaning.specs.BadLine.{Part, handedBack}
+use Rattle.meaning.specs.BadLine.{Part, handedBack, partBytes}
 use Rattle.meaning.specs.Example.{Lines, fileOf, entry, line, Case, edits, edited, exampleInstance, examplePlan}
 
 -- ---- reading, on the load of document 01
@@ -101,6 +101,10 @@ examplePart number n = partFor exampleInstance examplePlan number n
 -- the same with an empty line in the middle of either file
 abbrev pub gapPart : ℕ → ℕ → Part
 gapPart number n = partFor (edited (line 5 "") exampleInstance) (edited (line 2 "") examplePlan) number n
+
+-- what stands there
+abbrev pub exampleBytes : Part → List ℕ
+exampleBytes q = partBytes (fileOf exampleInstance) (fileOf examplePlan ++ bytes "left") q
 
 -- ---- words of a table
 -- words that stand one behind the other, from a place on
