@@ -33,7 +33,7 @@ pub mod LoadingOrder
 pub mod Levers
 pub mod Readable
 pub mod Feasible
-pub mod PrintedLoad
+pub mod ExampleLoad
 pub mod VerdictOrder
 pub mod AnyOrder
 pub mod Theorems

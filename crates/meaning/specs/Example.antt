@@ -1,4 +1,4 @@
--- Document 01, "One load from end to end": the printed load with its ten edits, their shared statement, and H.
+-- Document 01, "One load from end to end": that load with its ten edits, the statement that all lists of cases share, and H.
 use mathlib.Core.Path.{_≡_}
 use mathlib.Core.List.{List, [], _∷_, _++_, map}
 use Prim.Native.Nat.{ℕ, _-_}
@@ -6,17 +6,15 @@ use Prim.Native.String.{String}
 use lib.IntN.{ℤ, pos}
 use lib.ListN.{set, getD}
 use Rattle.meaning.specs.declared.Answer.{Answer}
-use Rattle.meaning.specs.Limits.{small, named}
+use Rattle.meaning.specs.Limits.{small}
 use Rattle.meaning.specs.Text.{bytes, commaParts}
-use Rattle.meaning.specs.Places.{place}
 use Rattle.meaning.specs.Model.{truckNumbered}
 use Rattle.meaning.specs.Measures.{H}
-use Rattle.meaning.specs.Verdict.{acceptance, refusal}
 use Rattle.meaning.specs.Check.{Reading, refused, readable, answer}
 use Rattle.meaning.specs.Reorder.{ended}
 use Rattle.meaning.specs.Print.{commaJoined}
 
--- ---- the printed load
+-- ---- the load of document 01
 -- the lines of a file, without their bytes 10
 abbrev pub Lines : Type 0
 Lines = List (List ℕ)
@@ -30,9 +28,9 @@ abbrev pub fileOf : Lines → List ℕ
 fileOf [] = []
 fileOf (l ∷ ls) = ended l ++ fileOf ls
 
--- the printed instance
-abbrev pub printedLoad : Lines
-printedLoad =
+-- its instance
+abbrev pub exampleInstance : Lines
+exampleInstance =
     lines (
     "transport=2"
     ∷ "inventory=3"
@@ -49,12 +47,12 @@ printedLoad =
     ∷ []
     )
 
--- the printed plan
-abbrev pub printedStacks : Lines
-printedStacks = lines ("stacks=1" ∷ "stack=1,1,0,0,0,1" ∷ "load=1,2" ∷ [])
+-- its plan
+abbrev pub examplePlan : Lines
+examplePlan = lines ("stacks=1" ∷ "stack=1,1,0,0,0,1" ∷ "load=1,2" ∷ [])
 
 -- ---- edits
--- a change of a file: entry k of line n, both from 1 and k > 1; or the whole line n
+-- a change of a file: entry k of line n, both from 1, where the first entry has the key before it; or the whole line n
 pub data Edit : Type 0 where
   entry : ℕ → ℕ → String → Edit
   line : ℕ → String → Edit
@@ -75,25 +73,17 @@ pub record Case : Type 0 where
   pub toPlan : List Edit
   pub expected : Answer
 
--- a case with one edit of the instance
-abbrev pub instanceEdit : Edit → Answer → Case
-instanceEdit e a = record { toInstance = e ∷ []; toPlan = []; expected = a }
+-- a case by its edits and its answer
+abbrev pub edits : List Edit → List Edit → Answer → Case
+edits toInstance toPlan a = record { toInstance = toInstance; toPlan = toPlan; expected = a }
 
--- a case with one edit of the plan
-abbrev pub planEdit : Edit → Answer → Case
-planEdit e a = record { toInstance = []; toPlan = e ∷ []; expected = a }
-
--- what the check answers, for a table of just the named words
+-- what the check answers, for a table of 8,976 words
 abbrev pub answered : Lines → Lines → Case → Answer
-answered instance plan c = answer small (named small) (fileOf (editedBy (c .toInstance) instance)) (fileOf (editedBy (c .toPlan) plan))
+answered instance plan c = answer small 8976 (fileOf (editedBy (c .toInstance) instance)) (fileOf (editedBy (c .toPlan) plan))
 
--- each case has the answer that it expects: the statement that all lists of cases share
+-- each case has the answer that it expects: the statement that all lists of cases share. The answers are written out, six numbers each
 abbrev pub AsExpected : Lines → Lines → List Case → Type 0
 AsExpected instance plan cases = map (answered instance plan) cases ≡ map (λ (c : Case). c .expected) cases
-
--- a refusal by its number and places
-abbrev pub refusedWith : ℕ → ℕ → ℕ → ℕ → Answer
-refusedWith n a b c = refusal n (place a b c)
 
 -- entries of the truck's line, line 8 of the instance, and of the stack's, line 2 of the plan: height of the truck
 abbrev pub setTH : String → Edit
@@ -119,23 +109,23 @@ setCopy v = entry 2 3 v
 abbrev pub setX : String → Edit
 setX v = entry 2 4 v
 
--- the printed load, and "Proved as a block, ten edits" (proofs/Answers: ten-edits)
+-- the load itself, and "Proved as a block, ten edits" (proofs/Answers: ten-edits)
 abbrev pub tenEdits : List Case
 tenEdits =
-    record { toInstance = []; toPlan = []; expected = acceptance 248000 1 }
-    ∷ planEdit (setCopy "1") (acceptance 288000 1)
-    ∷ instanceEdit (setEMmm "4480") (acceptance 248000 1)
-    ∷ instanceEdit (setEMmm "4479") (refusedWith 27 1 0 1)
-    ∷ instanceEdit (setEMmr "4559") (acceptance 248000 1)
-    ∷ instanceEdit (setEMmr "4558") (refusedWith 28 1 0 1)
-    ∷ instanceEdit (setTEM "938") (acceptance 248000 1)
-    ∷ instanceEdit (setTEM "937") (refusedWith 21 1 900 0)
-    ∷ instanceEdit (setTH "1899") (refusedWith 22 1 3 0)
-    ∷ planEdit (setX "1") (refusedWith 24 1 0 0)
-    ∷ planEdit (line 3 "load=1") (refusedWith 9 2 0 0)
+    edits [] [] (record { number = 0; first = 0; second = 0; third = 0; cost = 248000; trucks = 1 })
+    ∷ edits [] (setCopy "1" ∷ []) (record { number = 0; first = 0; second = 0; third = 0; cost = 288000; trucks = 1 })
+    ∷ edits (setEMmm "4480" ∷ []) [] (record { number = 0; first = 0; second = 0; third = 0; cost = 248000; trucks = 1 })
+    ∷ edits (setEMmm "4479" ∷ []) [] (record { number = 27; first = 1; second = 0; third = 1; cost = 0; trucks = 0 })
+    ∷ edits (setEMmr "4559" ∷ []) [] (record { number = 0; first = 0; second = 0; third = 0; cost = 248000; trucks = 1 })
+    ∷ edits (setEMmr "4558" ∷ []) [] (record { number = 28; first = 1; second = 0; third = 1; cost = 0; trucks = 0 })
+    ∷ edits (setTEM "938" ∷ []) [] (record { number = 0; first = 0; second = 0; third = 0; cost = 248000; trucks = 1 })
+    ∷ edits (setTEM "937" ∷ []) [] (record { number = 21; first = 1; second = 900; third = 0; cost = 0; trucks = 0 })
+    ∷ edits (setTH "1899" ∷ []) [] (record { number = 22; first = 1; second = 3; third = 0; cost = 0; trucks = 0 })
+    ∷ edits [] (setX "1" ∷ []) (record { number = 24; first = 1; second = 0; third = 0; cost = 0; trucks = 0 })
+    ∷ edits [] (line 3 "load=1" ∷ []) (record { number = 9; first = 2; second = 0; third = 0; cost = 0; trucks = 0 })
     ∷ []
 
--- ---- "H is 50,120,000" (proofs/Answers: H-printed)
+-- ---- "H is 50,120,000" (proofs/Answers: H-example)
 -- H of the plan that was read, on truck 1
 abbrev pub readH : Reading → ℤ
 readH (refused a) = pos 0

@@ -1,196 +1,158 @@
--- Worked examples beside the ten edits: document 01's "Errors to shut out", and the readings of the paper that it settles. Their answers
--- are computed in proofs/Answers.
-use mathlib.Core.List.{List, [], _∷_, _++_, map}
+-- Worked cases of reading, of the line handed back and of the working table. They are computed in proofs/Answers.
+use mathlib.Core.List.{List, [], _∷_, _++_}
 use Prim.Native.Nat.{ℕ}
-use Prim.Native.String.{String}
-use lib.ListN.{getD}
-use Rattle.meaning.specs.declared.Answer.{Answer}
+use lib.ListN.{length, take, drop}
 use Rattle.meaning.specs.Text.{bytes}
-use Rattle.meaning.specs.Verdict.{acceptance}
-use Rattle.meaning.specs.BadLine.{Part, handedBack}
-use Rattle.meaning.specs.Example.{Lines, lines, fileOf, Edit, entry, line, Case, instanceEdit, planEdit, refusedWith, printedLoad, printedStacks, setTH, setEMmr, setEMmm}
+use Rattle.meaning.specs.BadLine.{Part, handedBack, partBytes}
+use Rattle.meaning.specs.Example.{Lines, fileOf, entry, line, Case, edits, edited, exampleInstance, examplePlan}
 
--- a case with several edits
-abbrev pub edits : List Edit → List Edit → Answer → Case
-edits toInstance toPlan a = record { toInstance = toInstance; toPlan = toPlan; expected = a }
-
--- the head of an instance with one truck, and the lines after it
-abbrev pub oneTruckLoad : String → List String → Lines
-oneTruckLoad items rest = lines ("transport=1" ∷ "inventory=0" ∷ "extra=500" ∷ items ∷ "trucks=1" ∷ rest)
-
--- ---- a load with two stops: two stacks of one item each, one behind the other, of suppliers 1 and 2. The rear axle is at 1500, so the
--- second stack, from 1500 to 3000, is behind it. At departure 1 H is 1,500,000, at departure 2 it is 0
-abbrev pub twoStops : Lines
-twoStops =
-    oneTruckLoad "items=2" (
-    "item=1500,1000,1000,0,1000,1,2,1,0,0,9,1,1,1,1,1"
-    ∷ "item=1500,1000,1000,0,1000,1,2,1,0,0,9,1,1,2,1,1"
-    ∷ "truck=6000,2400,3000,24000,1,5,1000,0,1500,100,0,1,0,1,0,1000,0,500,2000,750"
-    ∷ "products=1"
-    ∷ "suppliers=1,2"
-    ∷ "docks=1"
-    ∷ "docks=1"
-    ∷ "plantdocks=1"
-    ∷ []
-    )
-
--- its plan
-abbrev pub twoStacks : Lines
-twoStacks = lines ("stacks=2" ∷ "stack=1,1,0,0,0,1" ∷ "load=1" ∷ "stack=2,1,0,1500,0,1" ∷ "load=2" ∷ [])
-
--- the accepted load costs one planned truck
-abbrev pub oneTruck : Answer
-oneTruck = acceptance 100000 1
-
--- entries of the truck's line: load limit
-abbrev pub setTMm : String → Edit
-setTMm v = entry 8 4 v
-
--- copy of the second stack
-abbrev pub setCopy2 : String → Edit
-setCopy2 v = entry 4 3 v
-
--- its x
-abbrev pub setX2 : String → Edit
-setX2 v = entry 4 4 v
-
--- its y
-abbrev pub setY2 : String → Edit
-setY2 v = entry 4 5 v
-
--- the second item's line for supplier 1: like the first item
-abbrev pub sameSupplier : String
-sameSupplier = "item=1500,1000,1000,0,1000,1,2,1,0,0,9,1,1,1,1,1"
-
--- with another supplier dock
-abbrev pub otherDock : String
-otherDock = "item=1500,1000,1000,0,1000,1,2,1,0,0,9,1,1,1,2,1"
-
--- with another plant dock
-abbrev pub otherPlantDock : String
-otherPlantDock = "item=1500,1000,1000,0,1000,1,2,1,0,0,9,1,2,1,1,1"
-
--- ---- weights
-abbrev pub weightCases : List Case
-weightCases =
-    edits [] [] oneTruck
-    -- the load limit is met exactly, and missed by a kilogram
-    ∷ edits (setTMm "2000" ∷ []) [] oneTruck
-    ∷ edits (setTMm "1999" ∷ []) [] (refusedWith 26 1 0 0)
-    -- the first of two departures fails and the last does not: "testing axles at the last departure only"
-    ∷ edits (setEMmm "749" ∷ []) [] (refusedWith 27 1 0 1)
-    -- a stack behind the rear axle counts negative: with its lever positive the rear axle would bear 500
-    ∷ edits (setEMmr "1999" ∷ []) [] (refusedWith 28 1 0 2)
-    -- 750.75 is above 750: "dividing before comparing"
-    ∷ edits (entry 6 5 "1001" ∷ []) [] (refusedWith 27 1 0 1)
-    ∷ edits (entry 6 5 "1001" ∷ setEMmm "751" ∷ setEMmr "2001" ∷ []) [] oneTruck
-    -- an extra truck with the second stack: TC × 1000 and TC × 1500; its first departure has no stack on and does not count
-    ∷ edits [] (setCopy2 "1" ∷ setX2 "0" ∷ []) (acceptance 250000 2)
-    ∷ []
-
--- ---- floor and contact
-abbrev pub floorCases : List Case
-floorCases =
-    -- side by side at one x, and one millimetre too near: "dropping P2 when two x are equal"
-    edits (setEMmm "1500" ∷ []) (setX2 "0" ∷ setY2 "1000" ∷ []) oneTruck
-    ∷ edits (setEMmm "1500" ∷ []) (setX2 "0" ∷ setY2 "999" ∷ []) (refusedWith 23 1 2 0)
-    -- the pair with the lowest numbers, whatever stands first in the file
-    ∷ edits [] (line 2 "stack=7,1,0,0,0,1" ∷ line 4 "stack=3,1,0,1499,0,1" ∷ []) (refusedWith 23 3 7 0)
-    -- a corner is enough, and a millimetre off it is not
-    ∷ edits [] (setY2 "1000" ∷ []) oneTruck
-    ∷ edits [] (setY2 "1001" ∷ []) (refusedWith 24 2 0 0)
-    -- a wide stack, 2000 across, before a narrow one
-    ∷ edits (line 6 "item=2000,1500,1000,0,1000,2,2,1,0,0,9,1,1,1,1,1" ∷ []) (line 2 "stack=1,1,0,0,0,2" ∷ setY2 "500" ∷ []) oneTruck
-    ∷ []
-
--- ---- loading order P4: each case as the stacks stand, and with the order turned round
-abbrev pub orderCases : List Case
-orderCases =
-    -- (1) suppliers
-    edits [] [] oneTruck
-    ∷ edits (line 10 "suppliers=2,1" ∷ []) [] (refusedWith 25 2 1 0)
-    -- (2) supplier docks of one supplier
-    ∷ edits (line 7 otherDock ∷ line 11 "docks=1,2" ∷ []) [] oneTruck
-    ∷ edits (line 7 otherDock ∷ line 11 "docks=2,1" ∷ []) [] (refusedWith 25 2 1 0)
-    -- (3) plant docks
-    ∷ edits (line 7 otherPlantDock ∷ line 13 "plantdocks=1,2" ∷ []) [] oneTruck
-    ∷ edits (line 7 otherPlantDock ∷ line 13 "plantdocks=2,1" ∷ []) [] (refusedWith 25 2 1 0)
-    -- (3) with the reverse: equal docks tie no stack to another, whichever stands in front
-    ∷ edits (line 7 sameSupplier ∷ []) [] oneTruck
-    ∷ edits (line 7 sameSupplier ∷ []) (entry 2 4 "1500" ∷ setX2 "0" ∷ []) oneTruck
-    ∷ []
-
--- ---- two plant docks: stack 1 has items for docks 1 and 2, stack 2 behind it two items for dock 2, all of one supplier and supplier dock
-abbrev pub twoDocks : Lines
-twoDocks =
-    oneTruckLoad "items=4" (
-    "item=1500,1000,1000,0,1000,1,2,1,0,0,9,1,1,1,1,1"
-    ∷ "item=1500,1000,1000,0,1000,1,2,1,0,0,9,1,2,1,1,1"
-    ∷ "item=1500,1000,1000,0,1000,1,2,1,0,0,9,1,2,1,1,1"
-    ∷ "item=1500,1000,1000,0,1000,1,2,1,0,0,9,1,2,1,1,1"
-    ∷ "truck=6000,2400,3000,24000,1,5,1000,1,1500,100,0,1,0,1,0,1000,0,500,4000,750"
-    ∷ "products=1"
-    ∷ "suppliers=1"
-    ∷ "docks=1"
-    ∷ "plantdocks=1,2"
-    ∷ []
-    )
-
--- its plan
-abbrev pub twoDockStacks : Lines
-twoDockStacks = lines ("stacks=2" ∷ "stack=1,1,0,0,0,1" ∷ "load=1,2" ∷ "stack=2,1,0,1500,0,1" ∷ "load=3,4" ∷ [])
-
--- 16, 17 and P4 (3) with a two-dock stack
-abbrev pub dockCases : List Case
-dockCases =
-    edits [] [] oneTruck
-    -- without the flag, and with docks that are not consecutive
-    ∷ edits (entry 10 8 "0" ∷ []) [] (refusedWith 16 1 2 0)
-    ∷ edits (line 14 "plantdocks=1,3,2" ∷ []) [] (refusedWith 16 1 2 0)
-    -- a second pair of docks in the other stack, and the same with another code
-    ∷ edits (entry 9 13 "1" ∷ []) [] (refusedWith 17 1 2 0)
-    ∷ edits (entry 9 13 "1" ∷ entry 8 6 "2" ∷ entry 9 6 "2" ∷ []) [] oneTruck
-    -- docks 1 and 2 are at most dock 2 and not also the reverse: the stacks may not change places, nor the docks their order
-    ∷ edits [] (entry 2 4 "1500" ∷ setX2 "0" ∷ []) (refusedWith 25 1 2 0)
-    ∷ edits (line 14 "plantdocks=2,1" ∷ []) [] (refusedWith 25 2 1 0)
-    ∷ []
-
--- ---- heights, on the printed load: the bottom item's nesting height does not count, the top item's does
-abbrev pub heightCases : List Case
-heightCases =
-    edits (setTH "1900" ∷ []) [] (acceptance 248000 1)
-    ∷ edits (setTH "2000" ∷ []) (line 3 "load=2,1" ∷ []) (acceptance 248000 1)
-    ∷ edits (setTH "1999" ∷ []) (line 3 "load=2,1" ∷ []) (refusedWith 22 1 3 0)
-    ∷ []
-
--- ---- reading, on the printed load
+-- ---- reading, on the load of document 01
 abbrev pub readingCases : List Case
 readingCases =
-    -- a number's form: needless zero, eleven digits; then its range, also beyond 32 bits
-    instanceEdit (line 4 "items=02") (refusedWith 4 4 0 0)
-    ∷ instanceEdit (line 4 "items=20000000000") (refusedWith 4 4 0 0)
-    ∷ instanceEdit (line 4 "items=0") (refusedWith 5 4 0 0)
-    ∷ instanceEdit (line 4 "items=4294967298") (refusedWith 5 4 0 0)
-    -- a key in capitals
-    ∷ instanceEdit (line 3 "Extra=200") (refusedWith 4 3 0 0)
-    -- form before range in one line: an entry out of range and one too few
-    ∷ instanceEdit (line 6 "item=0,800,1000,0,500,1,3,1,0,2,5,1,1,1,1") (refusedWith 4 6 0 0)
-    -- the first bad line: a range before a form
-    ∷ edits (line 1 "transport=1001" ∷ line 2 "inventory" ∷ []) [] (refusedWith 5 1 0 0)
+    -- each kind of line with a key that is not its own
+    edits (line 1 "Transport=2" ∷ []) [] (record { number = 4; first = 1; second = 0; third = 0; cost = 0; trucks = 0 })
+    ∷ edits (line 2 "inventory3" ∷ []) [] (record { number = 4; first = 2; second = 0; third = 0; cost = 0; trucks = 0 })
+    ∷ edits (line 3 "extra:200" ∷ []) [] (record { number = 4; first = 3; second = 0; third = 0; cost = 0; trucks = 0 })
+    ∷ edits (line 4 "item=2" ∷ []) [] (record { number = 4; first = 4; second = 0; third = 0; cost = 0; trucks = 0 })
+    ∷ edits (line 5 " trucks=1" ∷ []) [] (record { number = 4; first = 5; second = 0; third = 0; cost = 0; trucks = 0 })
+    ∷ edits (entry 6 1 "items=1200" ∷ []) [] (record { number = 4; first = 6; second = 0; third = 0; cost = 0; trucks = 0 })
+    ∷ edits (entry 8 1 "trucks=13000" ∷ []) [] (record { number = 4; first = 8; second = 0; third = 0; cost = 0; trucks = 0 })
+    ∷ edits (line 9 "product=1" ∷ []) [] (record { number = 4; first = 9; second = 0; third = 0; cost = 0; trucks = 0 })
+    ∷ edits (line 10 "=1" ∷ []) [] (record { number = 4; first = 10; second = 0; third = 0; cost = 0; trucks = 0 })
+    ∷ edits (line 11 "plantdocks=1" ∷ []) [] (record { number = 4; first = 11; second = 0; third = 0; cost = 0; trucks = 0 })
+    ∷ edits (line 12 "docks=1" ∷ []) [] (record { number = 4; first = 12; second = 0; third = 0; cost = 0; trucks = 0 })
+    ∷ edits [] (line 1 "stack=1" ∷ []) (record { number = 7; first = 1; second = 0; third = 0; cost = 0; trucks = 0 })
+    ∷ edits [] (entry 2 1 "stacks=1" ∷ []) (record { number = 7; first = 2; second = 0; third = 0; cost = 0; trucks = 0 })
+    ∷ edits [] (line 3 "loads=1,2" ∷ []) (record { number = 7; first = 3; second = 0; third = 0; cost = 0; trucks = 0 })
+    -- what a number is not: nothing, a needless zero, eleven digits, the bytes before 0 and after 9, nothing between commas; 0 alone is a number
+    ∷ edits (line 4 "items=" ∷ []) [] (record { number = 4; first = 4; second = 0; third = 0; cost = 0; trucks = 0 })
+    ∷ edits (line 4 "items=02" ∷ []) [] (record { number = 4; first = 4; second = 0; third = 0; cost = 0; trucks = 0 })
+    ∷ edits (line 4 "items=20000000000" ∷ []) [] (record { number = 4; first = 4; second = 0; third = 0; cost = 0; trucks = 0 })
+    ∷ edits (line 4 "items=2/" ∷ []) [] (record { number = 4; first = 4; second = 0; third = 0; cost = 0; trucks = 0 })
+    ∷ edits (line 4 "items=2:" ∷ []) [] (record { number = 4; first = 4; second = 0; third = 0; cost = 0; trucks = 0 })
+    ∷ edits [] (line 3 "load=1,,2" ∷ []) (record { number = 7; first = 3; second = 0; third = 0; cost = 0; trucks = 0 })
+    ∷ edits [] (line 3 "load=1,2," ∷ []) (record { number = 7; first = 3; second = 0; third = 0; cost = 0; trucks = 0 })
+    ∷ edits (line 2 "inventory=0" ∷ []) [] (record { number = 0; first = 0; second = 0; third = 0; cost = 200000; trucks = 1 })
+    -- a range, also beyond 32 bits
+    ∷ edits (line 4 "items=0" ∷ []) [] (record { number = 5; first = 4; second = 0; third = 0; cost = 0; trucks = 0 })
+    ∷ edits (line 4 "items=4294967298" ∷ []) [] (record { number = 5; first = 4; second = 0; third = 0; cost = 0; trucks = 0 })
+    -- counts of entries: one; 16 and 20; 1 to 32, 1 to 8; 6; 1 to 64. With eight suppliers it is the second docks= line that is not there
+    ∷ edits (line 5 "trucks=1,1" ∷ []) [] (record { number = 4; first = 5; second = 0; third = 0; cost = 0; trucks = 0 })
+    ∷ edits (line 6 "item=1200,800,1000,0,500,1,3,1,0,2,5,1,1,1,1" ∷ []) [] (record { number = 4; first = 6; second = 0; third = 0; cost = 0; trucks = 0 })
+    ∷ edits (entry 6 16 "4,4" ∷ []) [] (record { number = 4; first = 6; second = 0; third = 0; cost = 0; trucks = 0 })
+    ∷ edits (line 8 "truck=13000,2400,2700,24000,1,3,1000,0,1500,100,7000,3800,1000,3000,7000,7500,2500,1500,24000" ∷ []) []
+    (record { number = 4; first = 8; second = 0; third = 0; cost = 0; trucks = 0 })
+    ∷ edits (entry 8 20 "12000,1" ∷ []) [] (record { number = 4; first = 8; second = 0; third = 0; cost = 0; trucks = 0 })
+    ∷ edits (line 9 "products=" ∷ []) [] (record { number = 4; first = 9; second = 0; third = 0; cost = 0; trucks = 0 })
+    ∷ edits (line 9 "products=1,2,3,4,5,6,7,8,9,10,11,12,13,14,15,16,17,18,19,20,21,22,23,24,25,26,27,28,29,30,31,32" ∷ []) []
+    (record { number = 0; first = 0; second = 0; third = 0; cost = 248000; trucks = 1 })
+    ∷ edits (line 9 "products=1,2,3,4,5,6,7,8,9,10,11,12,13,14,15,16,17,18,19,20,21,22,23,24,25,26,27,28,29,30,31,32,33" ∷ []) []
+    (record { number = 4; first = 9; second = 0; third = 0; cost = 0; trucks = 0 })
+    ∷ edits (line 10 "suppliers=1,2,3,4,5,6,7,8" ∷ []) [] (record { number = 4; first = 12; second = 0; third = 0; cost = 0; trucks = 0 })
+    ∷ edits (line 10 "suppliers=1,2,3,4,5,6,7,8,9" ∷ []) [] (record { number = 4; first = 10; second = 0; third = 0; cost = 0; trucks = 0 })
+    ∷ edits (line 11 "docks=1,2,3,4,5,6,7,8" ∷ []) [] (record { number = 0; first = 0; second = 0; third = 0; cost = 248000; trucks = 1 })
+    ∷ edits (line 11 "docks=1,2,3,4,5,6,7,8,9" ∷ []) [] (record { number = 4; first = 11; second = 0; third = 0; cost = 0; trucks = 0 })
+    ∷ edits (line 12 "plantdocks=1,2,3,4,5,6,7,8" ∷ []) [] (record { number = 0; first = 0; second = 0; third = 0; cost = 248000; trucks = 1 })
+    ∷ edits (line 12 "plantdocks=1,2,3,4,5,6,7,8,9" ∷ []) [] (record { number = 4; first = 12; second = 0; third = 0; cost = 0; trucks = 0 })
+    ∷ edits [] (line 1 "stacks=1,1" ∷ []) (record { number = 7; first = 1; second = 0; third = 0; cost = 0; trucks = 0 })
+    ∷ edits [] (line 2 "stack=1,1,0,0,0" ∷ []) (record { number = 7; first = 2; second = 0; third = 0; cost = 0; trucks = 0 })
+    ∷ edits [] (entry 2 6 "1,1" ∷ []) (record { number = 7; first = 2; second = 0; third = 0; cost = 0; trucks = 0 })
+    ∷ edits [] (line 3 "load=" ∷ []) (record { number = 7; first = 3; second = 0; third = 0; cost = 0; trucks = 0 })
+    ∷ edits [] (line 3 "load=1,1,1,1,1,1,1,1,1,1,1,1,1,1,1,1,1,1,1,1,1,1,1,1,1,1,1,1,1,1,1,1,1,1,1,1,1,1,1,1,1,1,1,1,1,1,1,1,1,1,1,1,1,1,1,1,1,1,1,1,1,1,1,1" ∷ [])
+    (record { number = 9; first = 1; second = 64; third = 0; cost = 0; trucks = 0 })
+    ∷ edits [] (line 3 "load=1,1,1,1,1,1,1,1,1,1,1,1,1,1,1,1,1,1,1,1,1,1,1,1,1,1,1,1,1,1,1,1,1,1,1,1,1,1,1,1,1,1,1,1,1,1,1,1,1,1,1,1,1,1,1,1,1,1,1,1,1,1,1,1,1" ∷ [])
+    (record { number = 7; first = 3; second = 0; third = 0; cost = 0; trucks = 0 })
     -- a repeat where distinct is required
-    ∷ instanceEdit (line 12 "plantdocks=1,1") (refusedWith 5 12 0 0)
-    -- a missing line is one after those present; the first line too many
-    ∷ planEdit (line 1 "stacks=2") (refusedWith 7 4 0 0)
-    ∷ planEdit (line 1 "stacks=0") (refusedWith 7 2 0 0)
-    ∷ planEdit (line 3 "load=1,3") (refusedWith 8 3 0 0)
-    -- a code clash
-    ∷ instanceEdit (entry 7 2 "801") (refusedWith 6 2 1 0)
+    ∷ edits (line 9 "products=1,2,1" ∷ []) [] (record { number = 5; first = 9; second = 0; third = 0; cost = 0; trucks = 0 })
+    ∷ edits (line 10 "suppliers=1,1" ∷ []) [] (record { number = 5; first = 10; second = 0; third = 0; cost = 0; trucks = 0 })
+    ∷ edits (line 11 "docks=2,1,2" ∷ []) [] (record { number = 5; first = 11; second = 0; third = 0; cost = 0; trucks = 0 })
+    ∷ edits (line 12 "plantdocks=1,1" ∷ []) [] (record { number = 5; first = 12; second = 0; third = 0; cost = 0; trucks = 0 })
+    -- numbers of trucks and items above the count and 0; copy; orientation
+    ∷ edits [] (entry 2 2 "2" ∷ []) (record { number = 8; first = 2; second = 0; third = 0; cost = 0; trucks = 0 })
+    ∷ edits [] (entry 2 2 "0" ∷ []) (record { number = 8; first = 2; second = 0; third = 0; cost = 0; trucks = 0 })
+    ∷ edits [] (line 3 "load=1,3" ∷ []) (record { number = 8; first = 3; second = 0; third = 0; cost = 0; trucks = 0 })
+    ∷ edits [] (line 3 "load=0,1" ∷ []) (record { number = 8; first = 3; second = 0; third = 0; cost = 0; trucks = 0 })
+    ∷ edits [] (entry 2 3 "100" ∷ []) (record { number = 8; first = 2; second = 0; third = 0; cost = 0; trucks = 0 })
+    ∷ edits [] (entry 2 6 "0" ∷ []) (record { number = 8; first = 2; second = 0; third = 0; cost = 0; trucks = 0 })
+    ∷ edits [] (entry 2 6 "3" ∷ []) (record { number = 8; first = 2; second = 0; third = 0; cost = 0; trucks = 0 })
+    -- a missing line is one after those present; a line of another kind; the first line too many
+    ∷ edits (line 5 "trucks=2" ∷ []) [] (record { number = 4; first = 13; second = 0; third = 0; cost = 0; trucks = 0 })
+    ∷ edits [] (line 1 "stacks=2" ∷ []) (record { number = 7; first = 4; second = 0; third = 0; cost = 0; trucks = 0 })
+    ∷ edits (line 4 "items=1" ∷ []) [] (record { number = 4; first = 7; second = 0; third = 0; cost = 0; trucks = 0 })
+    ∷ edits (line 4 "items=3" ∷ []) [] (record { number = 4; first = 8; second = 0; third = 0; cost = 0; trucks = 0 })
+    ∷ edits [] (line 1 "stacks=0" ∷ []) (record { number = 7; first = 2; second = 0; third = 0; cost = 0; trucks = 0 })
+    -- form before range in one line; the first bad line; the instance before the plan, 6 between them
+    ∷ edits (line 6 "item=0,800,1000,0,500,1,3,1,0,2,5,1,1,1,1" ∷ []) [] (record { number = 4; first = 6; second = 0; third = 0; cost = 0; trucks = 0 })
+    ∷ edits (line 1 "transport=1001" ∷ line 2 "inventory" ∷ []) [] (record { number = 5; first = 1; second = 0; third = 0; cost = 0; trucks = 0 })
+    ∷ edits [] (entry 2 6 "3" ∷ line 3 "load" ∷ []) (record { number = 8; first = 2; second = 0; third = 0; cost = 0; trucks = 0 })
+    ∷ edits (line 12 "plantdocks=0" ∷ []) (line 1 "stacks" ∷ []) (record { number = 5; first = 12; second = 0; third = 0; cost = 0; trucks = 0 })
+    ∷ edits (entry 7 2 "799" ∷ []) (line 1 "stacks" ∷ []) (record { number = 6; first = 2; second = 1; third = 0; cost = 0; trucks = 0 })
     ∷ []
 
--- ---- the line handed back, with an unended line behind the printed plan
-abbrev pub handed : ℕ → ℕ → Part
-handed number n = handedBack (fileOf printedLoad) (fileOf printedStacks ++ bytes "left") number n
+-- ---- the line handed back
+-- the part for a number and a line, with an unended line behind the plan
+abbrev pub partFor : Lines → Lines → ℕ → ℕ → Part
+partFor instance plan number n = handedBack (fileOf instance) (fileOf plan ++ bytes "left") number n
 
--- ---- words of a table by their places
-abbrev pub wordsAt : List ℕ → List ℕ → List ℕ
-wordsAt table places = map (λ n. getD table n 9) places
+-- the load of document 01
+abbrev pub examplePart : ℕ → ℕ → Part
+examplePart number n = partFor exampleInstance examplePlan number n
+
+-- the same with an empty line in the middle of either file
+abbrev pub gapPart : ℕ → ℕ → Part
+gapPart number n = partFor (edited (line 5 "") exampleInstance) (edited (line 2 "") examplePlan) number n
+
+-- what stands there
+abbrev pub exampleBytes : Part → List ℕ
+exampleBytes q = partBytes (fileOf exampleInstance) (fileOf examplePlan ++ bytes "left") q
+
+-- ---- words of a table
+-- words that stand one behind the other, from a place on
+pub record Run : Type 0 where
+  pub from : ℕ
+  pub words : List ℕ
+
+-- what a table has in the place of a run
+abbrev pub wordsThere : List ℕ → Run → List ℕ
+wordsThere table r = take (length (r .words)) (drop (r .from) table)
+
+-- the uneven load, by the places that document 01 names; 5 stood in every word before
+abbrev pub unevenWords : List Run
+unevenWords =
+    -- head: αT, αI, αE, items, trucks, stacks, and a spare word; the word before the items
+    record { from = 0; words = 7 ∷ 3 ∷ 250 ∷ 8 ∷ 2 ∷ 5 ∷ 0 ∷ [] }
+    ∷ record { from = 15; words = 0 ∷ [] }
+    -- the first two items and the last, with the word behind it
+    ∷ record { from = 16; words = 1400 ∷ 760 ∷ 860 ∷ 20 ∷ 480 ∷ 72 ∷ 5 ∷ 216 ∷ 0 ∷ 16 ∷ 31 ∷ 83 ∷ 91 ∷ 52 ∷ 37 ∷ 8 ∷ [] }
+    ∷ record { from = 32; words = 1250 ∷ 800 ∷ 600 ∷ 60 ∷ 260 ∷ 71 ∷ 3 ∷ 213 ∷ 1 ∷ 20 ∷ 30 ∷ 83 ∷ 95 ∷ 57 ∷ 36 ∷ 9 ∷ [] }
+    ∷ record { from = 128; words = 1250 ∷ 800 ∷ 640 ∷ 90 ∷ 350 ∷ 71 ∷ 2 ∷ 212 ∷ 0 ∷ 11 ∷ 27 ∷ 83 ∷ 95 ∷ 57 ∷ 38 ∷ 11 ∷ 0 ∷ [] }
+    -- truck 1: its fields; product count and products; supplier count and suppliers; dock counts; docks of each supplier; plant dock count and plant docks
+    ∷ record { from = 4112; words = 5200 ∷ 2300 ∷ 1900 ∷ 530 ∷ 86 ∷ 23 ∷ 450 ∷ 0 ∷ 1100 ∷ 130 ∷ 6110 ∷ 3640 ∷ 1130 ∷ 2860 ∷ 3950 ∷ 4350 ∷ 2980 ∷ 1240 ∷ 1163 ∷ 4503 ∷ [] }
+    ∷ record { from = 4132; words = 2 ∷ 214 ∷ 219 ∷ 0 ∷ [] }
+    ∷ record { from = 4164; words = 0 ∷ 2 ∷ 52 ∷ 57 ∷ 0 ∷ [] }
+    ∷ record { from = 4174; words = 2 ∷ 2 ∷ 0 ∷ [] }
+    ∷ record { from = 4182; words = 31 ∷ 39 ∷ 0 ∷ [] }
+    ∷ record { from = 4190; words = 38 ∷ 32 ∷ 0 ∷ [] }
+    ∷ record { from = 4245; words = 0 ∷ 2 ∷ 95 ∷ 97 ∷ 0 ∷ [] }
+    -- truck 2: its fields; product count and products; supplier count and suppliers; dock counts; docks of each supplier; plant dock count and plant docks
+    ∷ record { from = 4272; words = 3450 ∷ 2080 ∷ 1695 ∷ 2060 ∷ 83 ∷ 20 ∷ 570 ∷ 1 ∷ 990 ∷ 170 ∷ 5240 ∷ 3260 ∷ 930 ∷ 2530 ∷ 3060 ∷ 1870 ∷ 1390 ∷ 620 ∷ 1750 ∷ 5400 ∷ [] }
+    ∷ record { from = 4292; words = 7 ∷ 213 ∷ 215 ∷ 211 ∷ 217 ∷ 212 ∷ 216 ∷ 218 ∷ 0 ∷ [] }
+    ∷ record { from = 4324; words = 0 ∷ 4 ∷ 54 ∷ 51 ∷ 57 ∷ 52 ∷ 0 ∷ [] }
+    ∷ record { from = 4334; words = 2 ∷ 1 ∷ 3 ∷ 2 ∷ 0 ∷ [] }
+    ∷ record { from = 4342; words = 33 ∷ 36 ∷ 0 ∷ [] }
+    ∷ record { from = 4350; words = 34 ∷ 0 ∷ [] }
+    ∷ record { from = 4358; words = 36 ∷ 35 ∷ 38 ∷ 0 ∷ [] }
+    ∷ record { from = 4366; words = 35 ∷ 37 ∷ 0 ∷ [] }
+    ∷ record { from = 4405; words = 0 ∷ 4 ∷ 93 ∷ 92 ∷ 95 ∷ 91 ∷ 0 ∷ [] }
+    -- the word behind the trucks; each stack with its first load index and load count; the word behind them
+    ∷ record { from = 4432; words = 0 ∷ [] }
+    ∷ record { from = 6672; words = 31 ∷ 2 ∷ 5 ∷ 0 ∷ 30 ∷ 1 ∷ 0 ∷ 3 ∷ [] }
+    ∷ record { from = 6680; words = 12 ∷ 2 ∷ 5 ∷ 1250 ∷ 830 ∷ 2 ∷ 3 ∷ 2 ∷ [] }
+    ∷ record { from = 6688; words = 40 ∷ 2 ∷ 5 ∷ 2050 ∷ 70 ∷ 1 ∷ 5 ∷ 1 ∷ [] }
+    ∷ record { from = 6696; words = 25 ∷ 2 ∷ 0 ∷ 0 ∷ 200 ∷ 2 ∷ 6 ∷ 1 ∷ [] }
+    ∷ record { from = 6704; words = 17 ∷ 1 ∷ 0 ∷ 0 ∷ 60 ∷ 1 ∷ 7 ∷ 1 ∷ [] }
+    ∷ record { from = 6712; words = 0 ∷ [] }
+    -- the word before the loads, the loads, the word behind them; the last named word and the word beyond, which stays
+    ∷ record { from = 8719; words = 0 ∷ 6 ∷ 2 ∷ 4 ∷ 8 ∷ 3 ∷ 1 ∷ 7 ∷ 5 ∷ 0 ∷ [] }
+    ∷ record { from = 8975; words = 0 ∷ 5 ∷ [] }
+    ∷ []

@@ -19,4 +19,5 @@ pub mod Meets
 pub mod InRange
 pub mod Claims
 pub mod Example
+pub mod ExampleRules
 pub mod Examples
