@@ -6,6 +6,7 @@ use lib.ListN.{replicate}
 use Rattle.meaning.specs.Limits.{small}
 use Rattle.meaning.specs.Text.{bytes, commaParts}
 use Rattle.meaning.specs.Measures.{H}
+use Rattle.meaning.specs.Table.{truckPlace, dockCount, stackPlace, loadFirst, loadCount}
 use Rattle.meaning.specs.Check.{readFiles, answer, tableAfter}
 use Rattle.meaning.specs.BadLine.{inInstance, inPlan, handedBack}
 use Rattle.meaning.specs.Print.{commaJoined}
@@ -120,6 +121,14 @@ pub uneven-table :
     ≡ map (λ (r : Run). r .words) unevenWords
 unfolding tableAfter
 uneven-table = refl
+
+-- where some words are looked up, in a table with words at 4336, 6686 and 6687: truck 2, the dock count of its third supplier, the second stack, its
+-- first load index and its load count
+pub places-looked-up :
+    (let table = replicate 4336 0 ++ 3 ∷ replicate 2349 0 ++ 4 ∷ 5 ∷ [] in
+    truckPlace small 2 ∷ dockCount small table 2 2 ∷ stackPlace small 1 ∷ loadFirst small table 1 ∷ loadCount small table 1 ∷ [])
+    ≡ 4272 ∷ 3 ∷ 6680 ∷ 4 ∷ 5 ∷ []
+places-looked-up = refl
 
 -- files that cannot be read zero the named words
 pub zeroed-table : tableAfter small (replicate 8977 5) [] [] ≡ replicate 8976 0 ++ 5 ∷ []

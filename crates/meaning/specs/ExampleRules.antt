@@ -146,9 +146,10 @@ ruleCases =
     ∷ edits (ofTruck2 3 "1694" ∷ []) [] (record { number = 22; first = 31; second = 3; third = 0; cost = 0; trucks = 0 })
     ∷ edits (ofTruck2 1 "truck=2049" ∷ ofTruck2 2 "2079" ∷ []) [] (record { number = 22; first = 12; second = 1; third = 0; cost = 0; trucks = 0 })
     ∷ edits (ofTruck2 2 "2079" ∷ ofTruck2 3 "1134" ∷ []) [] (record { number = 22; first = 12; second = 2; third = 0; cost = 0; trucks = 0 })
-    -- 23: stacks 31 and 12 side by side at one x, and a millimetre too near ("dropping P2 when two x are equal"); three stacks over one another
-    ∷ edits [] (ofStack12 4 "0" ∷ ofStack12 5 "830" ∷ ofStack40 4 "1250" ∷ []) (record { number = 0; first = 0; second = 0; third = 0; cost = 4808500; trucks = 3 })
-    ∷ edits [] (ofStack12 4 "0" ∷ ofStack12 5 "829" ∷ ofStack40 4 "1250" ∷ []) (record { number = 23; first = 12; second = 31; third = 0; cost = 0; trucks = 0 })
+    -- 23: stacks 31 and 12 side by side at one x, and a narrow stack behind a wide one; 31 and 12 a millimetre too near, which is not seen by
+    -- "dropping P2 when two x are equal"; three stacks over one another
+    ∷ edits [] (ofStack12 4 "0" ∷ ofStack12 5 "830" ∷ ofStack40 4 "800" ∷ ofStack40 5 "900" ∷ []) (record { number = 0; first = 0; second = 0; third = 0; cost = 4808500; trucks = 3 })
+    ∷ edits [] (ofStack12 4 "0" ∷ ofStack12 5 "829" ∷ ofStack40 4 "800" ∷ ofStack40 5 "900" ∷ []) (record { number = 23; first = 12; second = 31; third = 0; cost = 0; trucks = 0 })
     ∷ edits [] (ofStack12 4 "0" ∷ ofStack12 5 "30" ∷ ofStack40 4 "0" ∷ []) (record { number = 23; first = 12; second = 31; third = 0; cost = 0; trucks = 0 })
     -- 24: the load as it stands has two stacks at a corner ("A corner is enough"). Off that corner, on either side; before the end of the stack in
     -- front and behind it; behind a stack of the other copy alone
