@@ -68,6 +68,6 @@ module _ (m : Limits) (instance plan table₀ table : List ℕ) (a : Answer) whe
 pub room-to-judge : (m : Limits) (t : List ℕ) (times keys order rows : ℕ) → Filled m t → m .items ≤ times → m .stacks ≤ keys → m .stacks ≤ order → 16 * m .stacks ≤ rows
     → Filled m t × (length (instanceIn m t .items) ≤ times) × (length (stacksIn m t) ≤ keys) × (length (stacksIn m t) ≤ order) × (16 * length (stacksIn m t) ≤ rows)
 room-to-judge m t times keys order rows h a b c d =
-    let items = h .range .instance .itemCount in
+    let items = h .range .instance .head .itemCount in
     let stacks = h .range .stackCount in
     (h, omega (arith, items), omega (arith, stacks), omega (arith, stacks), omega (arith, stacks))

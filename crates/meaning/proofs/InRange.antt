@@ -19,7 +19,7 @@ use Rattle.meaning.specs.Meets.{Meets, TruckMeets, InstanceMeets, Stacks
 use Rattle.meaning.specs.InRange.{IsIdentifier, Distinct, ItemInRange, ListInRange, FieldsInRange, TruckInRange, InstanceInRange, StackInRange, LoadInRange, InRange}
 use Rattle.meaning.specs.Claims.{values, FieldsNamed}
 use Rattle.meaning.proofs.Tests.{and-reads, between-reads, le-reads, not-reads, iff-trans, iff-both, iff-not}
-use Rattle.meaning.proofs.Lists.{NoRepeat, at-in, in-at, in-map, every-map, every-append, every-reads, all-every, listed-reads, distinct-reads, map-upFrom}
+use Rattle.meaning.proofs.Lists.{NoRepeat, at-in, in-at, in-map, every-iff, every-append, every-reads, all-every, listed-reads, distinct-reads, map-upFrom}
 use Rattle.meaning.proofs.Fields.{Within}
 
 -- ---- the entries of a line, by their names
@@ -106,54 +106,39 @@ fields-in-range t = (
 )
 
 truck-in-range : (t : Truck) → TruckMeets t ↔ TruckInRange t
-truck-in-range t = (
-  (λ h.
-      record {
-        fields = fields-in-range t .0 (h .fields);
-        products = list-in-range _ 32 (t .products) .0 (h .products);
-        suppliers = list-in-range _ 8 (t .suppliers) .0 (h .suppliers);
-        dockLines = h .dockLines;
-        docks = every-map (Meets docksLine) _ (λ l. list-in-range _ 8 l .0) (t .docks) (h .docks);
-        plantDocks = list-in-range _ 8 (t .plantDocks) .0 (h .plantDocks);
-      }),
-  (λ h.
-      record {
-        fields = fields-in-range t .1 (h .fields);
-        products = list-in-range _ 32 (t .products) .1 (h .products);
-        suppliers = list-in-range _ 8 (t .suppliers) .1 (h .suppliers);
-        dockLines = h .dockLines;
-        docks = every-map (ListInRange 8) _ (λ l. list-in-range _ 8 l .1) (t .docks) (h .docks);
-        plantDocks = list-in-range _ 8 (t .plantDocks) .1 (h .plantDocks);
-      }),
-)
+truck-in-range t =
+    let fields = fields-in-range t in
+    let products = list-in-range _ 32 (t .products) in
+    let suppliers = list-in-range _ 8 (t .suppliers) in
+    let docks = every-iff (Meets docksLine) (ListInRange 8) (list-in-range _ 8) (t .docks) in
+    let plant = list-in-range _ 8 (t .plantDocks) in (
+      (λ h.
+          record {
+            fields = fields .0 (h .fields);
+            products = products .0 (h .products);
+            suppliers = suppliers .0 (h .suppliers);
+            dockLines = h .dockLines;
+            docks = docks .0 (h .docks);
+            plantDocks = plant .0 (h .plantDocks);
+          }),
+      (λ h.
+          record {
+            fields = fields .1 (h .fields);
+            products = products .1 (h .products);
+            suppliers = suppliers .1 (h .suppliers);
+            dockLines = h .dockLines;
+            docks = docks .1 (h .docks);
+            plantDocks = plant .1 (h .plantDocks);
+          }),
+    )
 
 instance-in-range : (m : Limits) (i : Instance) → InstanceMeets m i ↔ InstanceInRange m i
-instance-in-range m i = (
-  (λ h.
-      record {
-        αT = h .αT;
-        αI = h .αI;
-        αE = h .αE;
-        someItem = h .someItem;
-        itemCount = h .itemCount;
-        someTruck = h .someTruck;
-        truckCount = h .truckCount;
-        items = every-map (Meets itemLine) _ (λ a. item-in-range a .0) (i .items) (h .items);
-        trucks = every-map TruckMeets _ (λ t. truck-in-range t .0) (i .trucks) (h .trucks);
-      }),
-  (λ h.
-      record {
-        αT = h .αT;
-        αI = h .αI;
-        αE = h .αE;
-        someItem = h .someItem;
-        itemCount = h .itemCount;
-        someTruck = h .someTruck;
-        truckCount = h .truckCount;
-        items = every-map ItemInRange _ (λ a. item-in-range a .1) (i .items) (h .items);
-        trucks = every-map TruckInRange _ (λ t. truck-in-range t .1) (i .trucks) (h .trucks);
-      }),
-)
+instance-in-range m i =
+    let items = every-iff (Meets itemLine) ItemInRange item-in-range (i .items) in
+    let trucks = every-iff TruckMeets TruckInRange truck-in-range (i .trucks) in (
+      (λ h. record { head = h .head; items = items .0 (h .items); trucks = trucks .0 (h .trucks) }),
+      (λ h. record { head = h .head; items = items .1 (h .items); trucks = trucks .1 (h .trucks) }),
+    )
 
 -- ---- stacks
 -- a stack's line behind others: the ranges, and a number that no earlier stack has

@@ -83,6 +83,9 @@ module _ {A : Type 0} where
   every-map P Q f [] h = tt
   every-map P Q f (a ∷ l) h = (f a (h .0), every-map P Q f l (h .1))
 
+  pub every-iff : (P Q : A → Type 0) → ((a : A) → P a ↔ Q a) → (l : List A) → Every P l ↔ Every Q l
+  every-iff P Q f l = (every-map P Q (λ a. f a .0) l, every-map Q P (λ a. f a .1) l)
+
   -- ---- the element at a place
   pub at-in : (l : List A) (d : A) (n : ℕ) → n < length l → In (getD l n d) l
   at-in [] d n k = absurd (omega arith)

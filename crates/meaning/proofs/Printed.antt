@@ -120,17 +120,7 @@ yields-instance m =
     yields-then (yields-number "trucks=" (1 to m .trucks)) (λ truckCount b.
     yields-then (yields-times (yields-line itemLine) itemCount) (λ items c.
     yields-then (yields-times yields-truck truckCount) (λ trucks d.
-    yields-give _ (record {
-      αT = t .1;
-      αI = v .1;
-      αE = x .1;
-      someItem = omega (arith, c .0);
-      itemCount = omega (arith, c .0);
-      someTruck = omega (arith, d .0);
-      truckCount = omega (arith, d .0);
-      items = c .1;
-      trucks = d .1;
-    }) (rw (c .0, d .0)))))))))
+    yields-give _ (record { head = omega (arith, t, v, x, c .0, d .0); items = c .1; trucks = d .1 }) (rw (c .0, d .0)))))))))
 
 -- ---- the plan
 yields-stacks : (most items trucks count : ℕ) (earlier : List ℕ) (loaded : ℕ)

@@ -56,9 +56,9 @@ meets-fits m i p h =
     let items = length (i .items) in
     let trucks = length (i .trucks) in
     record {
-      itemCount = h .instance .itemCount;
+      itemCount = h .instance .head .itemCount;
       items = every-map (Meets itemLine) _ (λ a k. omega (arith, k .least, k .most)) (i .items) (h .instance .items);
-      truckCount = h .instance .truckCount;
+      truckCount = h .instance .head .truckCount;
       trucks = every-map TruckMeets TruckFits truck-fits (i .trucks) (h .instance .trucks);
       stackCount = h .stackCount;
       stacks = stacks-fit (m .loads) items trucks [] 0 p (h .stacks);

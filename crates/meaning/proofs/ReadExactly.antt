@@ -150,11 +150,11 @@ reads-truck t h =
 reads-instance : (m : Limits) → TenDigitLimits m → (i : Instance) → InstanceMeets m i → Reads i (printedInstance i) (instanceLines m)
 unfolding instanceLines printedInstance any
 reads-instance m few i h =
-    reads-then _ (reads-number "transport=" (0 to 1000) (i .αT) refl (omega arith) (omega arith) (h .αT))
-    (reads-then _ (reads-number "inventory=" (0 to 1000) (i .αI) refl (omega arith) (omega arith) (h .αI))
-    (reads-then _ (reads-number "extra=" (0 to 1000) (i .αE) refl (omega arith) (omega arith) (h .αE))
-    (reads-then _ (reads-number "items=" (1 to m .items) (length (i .items)) refl (omega (arith, few .items)) (h .someItem) (h .itemCount))
-    (reads-then _ (reads-number "trucks=" (1 to m .trucks) (length (i .trucks)) refl (omega (arith, few .trucks)) (h .someTruck) (h .truckCount))
+    reads-then _ (reads-number "transport=" (0 to 1000) (i .αT) refl (omega arith) (omega arith) (h .head .αT))
+    (reads-then _ (reads-number "inventory=" (0 to 1000) (i .αI) refl (omega arith) (omega arith) (h .head .αI))
+    (reads-then _ (reads-number "extra=" (0 to 1000) (i .αE) refl (omega arith) (omega arith) (h .head .αE))
+    (reads-then _ (reads-number "items=" (1 to m .items) (length (i .items)) refl (omega (arith, few .items)) (h .head .someItem) (h .head .itemCount))
+    (reads-then _ (reads-number "trucks=" (1 to m .trucks) (length (i .trucks)) refl (omega (arith, few .trucks)) (h .head .someTruck) (h .head .truckCount))
     (reads-then _ (reads-lines (i .items) plain-item (h .items))
     (reads-last _ (reads-times printedTruck truckLines (i .trucks) (every-map TruckMeets _ reads-truck (i .trucks) (h .trucks)))))))))
 
@@ -175,8 +175,8 @@ unfolding planLines printedPlan planOf any
 reads-plan m few i p h =
     let items = length (i .items) in
     let trucks = length (i .trucks) in
-    let fewItems : TenDigits items = omega (arith, few .items, h .instance .itemCount) in
-    let fewTrucks : TenDigits trucks = omega (arith, few .trucks, h .instance .truckCount) in
+    let fewItems : TenDigits items = omega (arith, few .items, h .instance .head .itemCount) in
+    let fewTrucks : TenDigits trucks = omega (arith, few .trucks, h .instance .head .truckCount) in
     reads-then _ (reads-number "stacks=" (0 to m .stacks) (length p) refl (omega (arith, few .stacks)) (omega arith) (h .stackCount))
     (reads-stacks (m .loads) items trucks fewItems fewTrucks [] 0 p (h .stacks))
 

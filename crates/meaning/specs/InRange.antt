@@ -80,8 +80,8 @@ pub record TruckInRange (t : Truck) : Type 0 where
   pub docks : Every (ListInRange 8) (t .docks)
   pub plantDocks : ListInRange 8 (t .plantDocks)
 
--- the head of the instance, its items and its trucks
-pub record InstanceInRange (m : Limits) (i : Instance) : Type 0 where
+-- the five numbers that the instance begins with
+pub record HeadInRange (m : Limits) (i : Instance) : Type 0 where
   pub αT : i .αT ≤ 1000
   pub αI : i .αI ≤ 1000
   pub αE : i .αE ≤ 1000
@@ -89,6 +89,10 @@ pub record InstanceInRange (m : Limits) (i : Instance) : Type 0 where
   pub itemCount : length (i .items) ≤ m .items
   pub someTruck : 1 ≤ length (i .trucks)
   pub truckCount : length (i .trucks) ≤ m .trucks
+
+-- and its items and trucks
+pub record InstanceInRange (m : Limits) (i : Instance) : Type 0 where
+  pub head : HeadInRange m i
   pub items : Every ItemInRange (i .items)
   pub trucks : Every TruckInRange (i .trucks)
 

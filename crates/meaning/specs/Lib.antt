@@ -15,8 +15,8 @@ pub mod Feasible
 pub mod Reorder
 pub mod Stopped
 pub mod Print
-pub mod Meets
 pub mod InRange
+pub mod Meets
 pub mod Claims
 pub mod Example
 pub mod ExampleRules

@@ -1,5 +1,5 @@
--- A model whose lines meet their forms: what the readers ask of each line, as a property of what was read. InRange says the same by the
--- names of the fields.
+-- A model whose lines meet their forms: what the readers ask of each line, as a property of what was read. InRange says the same of the
+-- fields by their names.
 use mathlib.Core.Path.{_≡_}
 use mathlib.Core.Bool.{true}
 use mathlib.Core.List.{List, [], _∷_}
@@ -9,6 +9,7 @@ use Rattle.meaning.specs.declared.Limits.{Limits}
 use Rattle.meaning.specs.Lists.{Every}
 use Rattle.meaning.specs.Text.{Form}
 use Rattle.meaning.specs.Model.{Instance, Truck, Stack, number}
+use Rattle.meaning.specs.InRange.{HeadInRange}
 use Rattle.meaning.specs.Files.{itemLine, truckLine, productsLine, suppliersLine, docksLine, plantDocksLine, stackLine, loadLine}
 
 -- the numbers of a line of this form: as many as it takes, and in range
@@ -28,13 +29,7 @@ pub record TruckMeets (t : Truck) : Type 0 where
 
 -- the lines of an instance
 pub record InstanceMeets (m : Limits) (i : Instance) : Type 0 where
-  pub αT : i .αT ≤ 1000
-  pub αI : i .αI ≤ 1000
-  pub αE : i .αE ≤ 1000
-  pub someItem : 1 ≤ length (i .items)
-  pub itemCount : length (i .items) ≤ m .items
-  pub someTruck : 1 ≤ length (i .trucks)
-  pub truckCount : length (i .trucks) ≤ m .trucks
+  pub head : HeadInRange m i
   pub items : Every (Meets itemLine) (i .items)
   pub trucks : Every TruckMeets (i .trucks)
 

@@ -92,7 +92,7 @@ module _ {m : Limits} {t : List ℕ} (h : Filled m t) where
       (truck-most (truckNumbered (instanceIn m t) n .fields) (truck-in n k .fields) f l)
 
   pub stack-field-most : (s : ℕ) → s < length (stacksIn m t) → (f : ℕ) → f < 6 → getD (stackAt (stacksIn m t) s .fields) f 0 ≤ stackMost f
-  stack-field-most s k = stack-most _ _ (stackAt (stacksIn m t) s) (stack-in s k) (omega (arith, h .range .instance .truckCount, h .bounded .words))
+  stack-field-most s k = stack-most _ _ (stackAt (stacksIn m t) s) (stack-in s k) (omega (arith, h .range .instance .head .truckCount, h .bounded .words))
 
   pub stack-read : (s f at : ℕ) → s < length (stacksIn m t) → f < 6 → at ≡ stackPlace m s + f
       → (getD t at 0 ≡ getD (stackAt (stacksIn m t) s .fields) f 0) × (getD t at 0 ≤ stackMost f)
@@ -102,7 +102,7 @@ module _ {m : Limits} {t : List ℕ} (h : Filled m t) where
   -- ---- the lists of a truck
   module _ (n : ℕ) (k : TruckNumber (instanceIn m t) n) where
     truck-room : truckPlace m n + 160 ≤ length t
-    truck-room = omega (arith, k .0, k .1, h .range .instance .truckCount, h .room)
+    truck-room = omega (arith, k .0, k .1, h .range .instance .head .truckCount, h .room)
 
     -- one that stands behind its count
     module _ {list : Truck → List ℕ} {at most : ℕ} (l : BehindCount list at most) where
