@@ -161,8 +161,11 @@ ruleCases =
     -- 25 (1): stack 40 of the first supplier. (2): supplier docks the other way round
     ∷ edits (ofItem 1 14 "54" ∷ ofItem 1 15 "33" ∷ []) [] (record { number = 25; first = 40; second = 12; third = 0; cost = 0; trucks = 0 })
     ∷ edits (line 25 "docks=38,35,36" ∷ []) [] (record { number = 25; first = 12; second = 31; third = 0; cost = 0; trucks = 0 })
-    -- 25 (3): one supplier dock, plant docks 92 and 95 before 95, then after 95; all of them 95; one dock number of two suppliers
+    -- 25 (3): one supplier dock, plant docks 92 and 95 before 95, with the stacks as they stand and exchanged, then with 95 before 92; all of them 95; one
+    -- dock number of two suppliers
     ∷ edits (ofItem 3 15 "36" ∷ ofItem 8 15 "36" ∷ []) [] (record { number = 0; first = 0; second = 0; third = 0; cost = 4808500; trucks = 3 })
+    ∷ edits (ofItem 3 15 "36" ∷ ofItem 8 15 "36" ∷ []) (ofStack31 4 "800" ∷ ofStack12 4 "0" ∷ [])
+    (record { number = 25; first = 31; second = 12; third = 0; cost = 0; trucks = 0 })
     ∷ edits (ofItem 3 15 "36" ∷ ofItem 8 15 "36" ∷ line 27 "plantdocks=93,95,92,91" ∷ []) [] (record { number = 25; first = 12; second = 31; third = 0; cost = 0; trucks = 0 })
     ∷ edits (ofItem 3 15 "36" ∷ ofItem 8 15 "36" ∷ ofItem 4 13 "95" ∷ ofItem 6 13 "95" ∷ []) []
     (record { number = 0; first = 0; second = 0; third = 0; cost = 4808500; trucks = 3 })
