@@ -1,12 +1,13 @@
 -- The answers to the load of document 01, its ten edits and the worked cases, by computation.
 use mathlib.Core.Path.{_≡_, refl}
 use mathlib.Core.List.{[], _∷_, _++_, map}
+use Prim.Native.Nat.{_+_, _*_}
 use lib.IntN.{pos}
 use lib.ListN.{replicate}
 use Rattle.meaning.specs.Limits.{small}
 use Rattle.meaning.specs.Text.{bytes, commaParts}
 use Rattle.meaning.specs.Measures.{H}
-use Rattle.meaning.specs.Table.{truckPlace, dockCount, stackPlace, loadFirst, loadCount}
+use Rattle.meaning.specs.Table.{largestWord, truckPlace, dockCount, stackPlace, loadFirst, loadCount}
 use Rattle.meaning.specs.Check.{readFiles, answer, tableAfter}
 use Rattle.meaning.specs.BadLine.{inInstance, inPlan, handedBack}
 use Rattle.meaning.specs.Print.{commaJoined}
@@ -139,3 +140,7 @@ zeroed-table = refl
 pub short-table-left : tableAfter small (replicate 8975 5) (fileOf exampleInstance) (fileOf examplePlan) ≡ replicate 8975 5
 unfolding tableAfter
 short-table-left = refl
+
+-- "32-bit unsigned words": the largest is one below 2 to the 32nd
+pub largest-word : largestWord + 1 ≡ 65536 * 65536
+largest-word = refl

@@ -25,7 +25,7 @@ pub record ItemInRange (a : Item) : Type 0 where
   pub fields : length a ≡ 16
   pub long : (1 ≤ IL a) × (IL a ≤ 20000)
   pub wide : (1 ≤ IW a) × (IW a ≤ IL a)
-  pub high : (1 ≤ IH a) × (IH a ≤ 20000)
+  pub tall : (1 ≤ IH a) × (IH a ≤ 20000)
   pub nests : nesting a < IH a
   pub weight : (1 ≤ IM a) × (IM a ≤ 50000)
   pub code : IsIdentifier (IS a)
@@ -52,7 +52,7 @@ pub record FieldsInRange (t : Truck) : Type 0 where
   pub fields : length (t .fields) ≡ 20
   pub long : (1 ≤ TL t) × (TL t ≤ 20000)
   pub wide : (1 ≤ TW t) × (TW t ≤ 20000)
-  pub high : (1 ≤ TH t) × (TH t ≤ 20000)
+  pub tall : (1 ≤ TH t) × (TH t ≤ 20000)
   pub loadLimit : (1 ≤ TMm t) × (TMm t ≤ 50000)
   pub plant : IsIdentifier (TP t)
   pub arrival : TDA t ≤ 399
