@@ -1,4 +1,4 @@
--- The model: what an instance file and a plan file say. A row of numbers is kept as its line has it, and its fields go by the names
+-- The model: what an instance file and a plan file say. The numbers of a line stand as the line has them, and its fields go by the names
 -- of the paper (document 000). The field numbers stand in this file alone.
 use mathlib.Core.List.{List, []}
 use Prim.Native.Nat.{ℕ, _-_}

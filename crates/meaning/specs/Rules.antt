@@ -220,7 +220,7 @@ pub record Rule : Type 0 where
   pub places : Instance → List Stack → List Place
 
 infix 80 _at_
--- a row of the table
+-- a rule by its number and its places
 abbrev pub _at_ : ℕ → (Instance → List Stack → List Place) → Rule
 n at places = record { verdict = n; places = places }
 
