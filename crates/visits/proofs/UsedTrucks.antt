@@ -1,12 +1,11 @@
 -- Used trucks in the visiting order: the stacks of each stand together, by ascending number.
 use mathlib.Core.Path.{_≡_, sym, ap, subst, _∙_}
 use mathlib.Core.Logic.{inl, ⊎-elim}
-use mathlib.Core.Bool.{Bool, true, false, not}
+use mathlib.Core.Bool.{true, false}
 use mathlib.Core.List.{List, [], _∷_, _++_, map}
 use Prim.Native.Nat.{ℕ, zero, suc, _+_, _-_, _*_, _≤_, _<_}
 use native.Mathlib.Nat.{eq-or-lt-of-le}
 use native.Mathlib.Omega.{arith}
-use borrow.Author.Tests.{not-true, not-false}
 use lib.ListN.{length, getD, drop, length-take, length-drop, length-map, take-append-drop}
 use lib.Seq.{getD-take, getD-drop, drop-drop}
 use Rattle.meaning.specs.declared.Limits.{Limits}
@@ -15,7 +14,7 @@ use Rattle.meaning.specs.Model.{Stack, number, truck, copy}
 use Rattle.meaning.specs.Measures.{UsedTruck, usedBy, sameUsed, usedTrucks, stacksOn}
 use Rattle.meaning.specs.Table.{instanceIn, stacksIn}
 use Rattle.meaning.specs.Meets.{StacksMeet}
-use Rattle.meaning.proofs.Tests.{true≢false, fails}
+use Rattle.meaning.proofs.Tests.{fails}
 use Rattle.meaning.proofs.Lists.{NoRepeat, at-in, in-at, in-map, every-at, every-map, every-reads, filter-all, map-at}
 use Rattle.meaning.proofs.Permute.{map-perm, noRepeat-perm}
 use Rattle.meaning.proofs.Sound.{not-earlier}
@@ -114,8 +113,8 @@ module _ {p : List Stack} (h : Keyed p) where
       let c : copy (visitAt p i) ≡ copy r = omega (arith, below .1 (same-truck s r e ∙ sym t), above .1 t, same-copy s r e) in
       λ z. record { truck = t z; copy = c z }
 
-  -- ---- going down from the last stack of a used truck
-  one-truck : (start end : ℕ) → start < end → end ≤ length p
+  -- ---- a used truck, and where it begins
+  pub one-truck : (start end : ℕ) → start < end → end ≤ length p
       → ((k : ℕ) → start ≤ k → k < end → usedBy (visitAt p k) ≡ usedBy (visitAt p start)) → OneTruck p start end
   one-truck start end some within same =
       record {
@@ -125,35 +124,16 @@ module _ {p : List Stack} (h : Keyed p) where
         rising = λ j k from less up. number-rising j k less (omega arith) (same j from (omega arith) ∙ sym (same k (omega arith) up));
       }
 
-  pub truck-last : (end : ℕ) → 1 ≤ end → end ≤ length p → OneTruck p (end - 1) end
-  truck-last end some within =
-      one-truck (end - 1) end (omega arith) within (λ k from up. let e : k ≡ end - 1 = omega arith in ap (λ j. usedBy (visitAt p j)) e)
-
-  module _ {start end : ℕ} (one : OneTruck p start end) (more : 0 < start) where
-    pub truck-on : (same : Bool) → same ≡ sameUsed (usedBy (visitAt p (end - 1))) (usedBy (visitAt p (start - 1))) → not same ≡ false
-        → OneTruck p (start - 1) end
-    truck-on same e q =
-        let s = visitAt p (end - 1) in
-        let r = visitAt p (start - 1) in
-        let last = used-reads (usedBy s) (usedBy r) .0 (sym e ∙ not-false same q) in
-        one-truck (start - 1) end (omega (arith, one .some)) (one .within)
-        (λ k from up.
-        ⊎-elim (λ z. ap (λ j. usedBy (visitAt p j)) (sym z))
-        (λ l. one .same k (omega arith) up ∙ sym (one .same (end - 1) (omega (arith, one .some)) (omega arith)) ∙ last) (eq-or-lt-of-le from))
-
-    pub truck-found : (same : Bool) → same ≡ sameUsed (usedBy (visitAt p (end - 1))) (usedBy (visitAt p (start - 1))) → not same ≡ true → Parted p start
-    truck-found same e q =
-        let s = visitAt p (end - 1) in
-        let r = visitAt p (start - 1) in
-        record {
-          apart = λ j k low high inside.
-              fails (sameUsed (usedBy (visitAt p j)) (usedBy (visitAt p k))) (λ z.
-              let one-used = used-reads (usedBy (visitAt p j)) (usedBy (visitAt p k)) .0 z in
-              let before = used-between j (start - 1) k (omega arith) (omega arith) inside one-used in
-              let first = used-between j start k (omega arith) high inside one-used in
-              let last = one .same (end - 1) (omega (arith, one .some)) (omega (arith, one .some)) in
-              true≢false (sym (used-reads (usedBy s) (usedBy r) .1 (last ∙ first ∙ sym before)) ∙ sym e ∙ not-true same q));
-        }
+  -- where two neighbours are on different used trucks, all before are parted from all behind
+  pub parted-between : (at : ℕ) → 0 < at → (usedBy (visitAt p (at - 1)) ≡ usedBy (visitAt p at) → ⊥) → Parted p at
+  parted-between at some differ =
+      record {
+        apart = λ j k low high inside.
+            fails (sameUsed (usedBy (visitAt p j)) (usedBy (visitAt p k))) (λ z.
+            let one-used = used-reads (usedBy (visitAt p j)) (usedBy (visitAt p k)) .0 z in
+            let before = used-between j (at - 1) k (omega arith) (omega arith) inside one-used in
+            differ (before ∙ sym (used-between j at k (omega arith) high inside one-used)));
+      }
 
 -- ---- places that part nothing
 pub parted-first : (p : List Stack) (end : ℕ) → end ≤ 0 → Parted p end
