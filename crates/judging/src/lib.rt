@@ -12,7 +12,7 @@ ghost use Rattle.table.specs.Filled.{Filled};
 ghost use Rattle.search.specs.Lowest.{lowestIn};
 ghost use Rattle.rules.specs.Order.{rulePlaces, ruleAt};
 ghost use Rattle.visits.specs.Visits.{block, HoldsRows, OneTruck};
-ghost use Rattle.judging.specs.Judging.{Tells, PlacementOf, WeightsOf, FindingsOf, UsedTrucksOf, withRule, AskedBefore};
+ghost use Rattle.judging.specs.Judging.{Tells, PlacementOf, WeightsOf, FindingsOf, UsedTrucksOf, withRule, AskedBelow};
 ghost use Rattle.judging.specs.Judging.{joinedPlacement, joinedWeights, truckFound, pairKept, keptBy, placeIn, FirstRank};
 use axles::WeightPlaces;
 use axles::truck_weights;
@@ -87,9 +87,9 @@ fn with_rule(asked: Asked, rule: Rule) -> Asked
 }
 
 // The kinds of the rules before a rank. A rule that comes later need not be asked where one of that rank is broken.
-fn kinds_before(rank: usize) -> Asked
-    requires { ⌜ rank ≤ 19 ⌝ }
-    ensures { λ r. ⌜ AskedBefore rank r ⌝ }
+fn kinds_below(rank: usize) -> Asked
+    requires { ⌜ rank ≤ ruleCount ⌝ }
+    ensures { λ r. ⌜ AskedBelow rank r ⌝ }
 {
     let mut asked = Asked {
         single_pair: false,
@@ -153,7 +153,8 @@ fn joined_weights(a: WeightPlaces, b: WeightPlaces) -> WeightPlaces
 // Rule 17 on one used truck, where it is asked.
 fn asked_single_pair(asked: bool, t: &[u32], limits: Limits, rows: &[u32], on: Block) -> bool
     requires { ⌜ HoldsRows limits (now t) (now rows) × OneTruck (stacksIn limits (now t)) (on .start) (on .end) ⌝ }
-    ensures { λ r. ⌜ (asked ≡ true → SinglePairOf (instanceIn limits (now (t .entry))) (block (stacksIn limits (now (t .entry))) (on .start) (on .end)) r) ⌝ }
+    ensures { λ r. ⌜ (asked ≡ true → (r ≡ true) ↔ (pairPlaces singlePair (instanceIn limits (now (t .entry)))
+        (block (stacksIn limits (now (t .entry))) (on .start) (on .end)) ≡ [])) ⌝ }
 {
     if asked {
         return keeps_single_pair(t, limits, rows, on);
@@ -182,6 +183,9 @@ fn asked_placement(
 
 // The weight rules on one used truck, where they are asked.
 fn asked_weights(asked: bool, t: &[u32], limits: Limits, rows: &[u32], on: Block) -> WeightPlaces
+    requires { ⌜ HoldsRows limits (now t) (now rows) × OneTruck (stacksIn limits (now t)) (on .start) (on .end) ⌝ }
+    ensures { λ r. ⌜ (asked ≡ true → (rule : WeightRule) → weightFound rule r
+        ≡ lowestIn (weightRulePlaces rule (instanceIn limits (now (t .entry))) (block (stacksIn limits (now (t .entry))) (on .start) (on .end)))) ⌝ }
 {
     if asked {
         return truck_weights(t, limits, rows, on);
@@ -195,6 +199,10 @@ fn asked_weights(asked: bool, t: &[u32], limits: Limits, rows: &[u32], on: Block
 
 // The used trucks with one more, whose stacks begin at place `start`.
 fn with_truck(used: UsedTrucks, t: &[u32], limits: Limits, rows: &[u32], start: usize) -> UsedTrucks
+    requires { ⌜ HoldsRows limits (now t) (now rows) × (start < length (stacksIn limits (now t))) × (used .count ≤ 16777216)
+        × (used .cost ≤ 4194304000000000) ⌝ }
+    ensures { λ r. ⌜ (r .count ≡ used .count + 1) × (r .cost ≡ transportCost (instanceIn limits (now (t .entry)))
+        (usedBy (visitAt (stacksIn limits (now (t .entry))) start)) + used .cost) × (r .cost ≤ used .cost + 2000000000) ⌝ }
 {
     let truck = row_word(rows, start, row::TRUCK);
     let copy = row_word(rows, start, row::COPY);
@@ -213,8 +221,216 @@ fn ask_trucks(
     keys: &mut [u64],
     along: &mut [u32],
 ) -> Findings
+    requires { ⌜ HoldsRows limits (now t) (now rows) × (length (stacksIn limits (now t)) ≤ length (now keys))
+        × (length (stacksIn limits (now t)) ≤ length (now along)) ⌝ }
+    ensures tells { λ r. ⌜ TellsAsked asked (instanceIn limits (now (t .entry))) (stacksIn limits (now (t .entry))) r
+        × CountsTrucks (instanceIn limits (now (t .entry))) (stacksIn limits (now (t .entry))) (r .used .count) (r .used .cost) ⌝ }
+    ensures kept { λ _. ⌜ (length (now (keys .exit)) ≡ length (now (keys .entry))) × (length (now (along .exit)) ≡ length (now (along .entry))) ⌝ }
 {
     let mut single_pair = true;
-    let mut placement = asked_placement(false, ...)
-    ...
+    let mut placement = Placement {
+        apart: true,
+        in_order: true,
+        unbraced: Found::Nothing,
+    };
+    let mut weights = WeightPlaces {
+        overload: Found::Nothing,
+        middle: Found::Nothing,
+        rear: Found::Nothing,
+    };
+    let mut used = UsedTrucks { count: 0, cost: 0 };
+    let mut end = stack_count(t, limits);
+    while 0 < end {
+        let start = truck_start(rows, end);
+        let on = Block { start, end };
+        single_pair = asked_single_pair(asked.single_pair, t, limits, rows, on) & single_pair;
+        placement = joined_placement(
+            asked_placement(asked.placement, rows, on, keys, along),
+            placement,
+        );
+        weights = joined_weights(
+            asked_weights(asked.weights, t, limits, rows, on),
+            weights,
+        );
+        used = with_truck(used, t, limits, rows, start);
+        end = start;
+    }
+    Findings {
+        single_pair,
+        placement,
+        weights,
+        used,
+    }
+}
+
+// ---- the verdict
+
+// Whether a rule on pairs is kept.
+fn pair_kept(rule: PairRule, found: Findings) -> bool
+    ensures { λ r. ⌜ r ≡ pairKept rule found ⌝ }
+{
+    let placement = found.placement;
+    match rule {
+        PairRule::SecondPair => found.single_pair,
+        PairRule::Overlap => placement.apart,
+        PairRule::Order => placement.in_order,
+    }
+}
+
+// The lowest place of a rule on all stacks of a used truck.
+fn truck_found(rule: TruckRule, found: Findings) -> Found
+    ensures { λ r. ⌜ r ≡ truckFound rule found ⌝ }
+{
+    let placement = found.placement;
+    let weights = found.weights;
+    match rule {
+        TruckRule::Unbraced => placement.unbraced,
+        TruckRule::Overload => weights.overload,
+        TruckRule::Middle => weights.middle,
+        TruckRule::Rear => weights.rear,
+    }
+}
+
+// Whether a rule is kept as far as the used trucks tell, which is all but the rules on single stacks.
+fn is_kept(rule: Rule, found: Findings) -> bool
+    ensures { λ r. ⌜ r ≡ keptBy rule found ⌝ }
+{
+    match rule {
+        Rule::OfStacks(_) => true,
+        Rule::OfPairs(pair) => pair_kept(pair, found),
+        Rule::OfTrucks(each) => is_nothing(truck_found(each, found)),
+    }
+}
+
+// The rank of the first rule that the used trucks break, of those below `upto`; `upto` where there is none.
+fn first_rank(found: Findings, upto: usize) -> usize
+    requires { ⌜ upto ≤ ruleCount ⌝ }
+    ensures { λ r. ⌜ FirstRank found upto r ⌝ }
+{
+    let mut rank = 0;
+    while rank < upto {
+        if !is_kept(rule_at(rank), found) {
+            return rank;
+        }
+        rank += 1;
+    }
+    rank
+}
+
+// The lowest pair that breaks a rule. The keys and the order are scratch.
+fn lowest_pair(
+    rule: PairRule,
+    t: &[u32],
+    limits: Limits,
+    rows: &[u32],
+    keys: &mut [u64],
+    order: &mut [u32],
+) -> Found
+    requires { ⌜ HoldsRows limits (now t) (now rows) × (length (stacksIn limits (now t)) ≤ length (now keys))
+        × (length (stacksIn limits (now t)) ≤ length (now order)) ⌝ }
+    ensures { λ r. ⌜ r ≡ lowestIn (rulePlaces (OfPairs rule) (instanceIn limits (now (t .entry))) (stacksIn limits (now (t .entry)))) ⌝ }
+{
+    order_by_number(rows, stack_count(t, limits), keys, order);
+    first_pair(rule, t, limits, rows, order)
+}
+
+// The answer on a broken rule.
+fn refuse(verdict: u32, place: Place) -> Answer
+    ensures { λ r. ⌜ r ≡ refusal verdict place ⌝ }
+{
+    Answer {
+        number: verdict,
+        first: place.first,
+        second: place.second,
+        third: place.third,
+        cost: 0,
+        trucks: 0,
+    }
+}
+
+// The place that a search found.
+fn place_in(found: Found) -> Place
+    ensures { λ r. ⌜ r ≡ placeIn found ⌝ }
+{
+    match found {
+        Found::At(place) => place,
+        Found::Nothing => Place {
+            first: 0,
+            second: 0,
+            third: 0,
+        },
+    }
+}
+
+// The answer on a plan that keeps every rule.
+fn accept(t: &[u32], limits: Limits, used: UsedTrucks) -> Answer
+    requires { ⌜ Filled limits (now t) × CountsTrucks (instanceIn limits (now t)) (stacksIn limits (now t)) (used .count) (used .cost) ⌝ }
+    ensures { λ r. ⌜ r ≡ acceptance (cost (instanceIn limits (now (t .entry))) (stacksIn limits (now (t .entry))))
+        (length (usedTrucks (stacksIn limits (now (t .entry))))) ⌝ }
+{
+    Answer {
+        number: 0,
+        first: 0,
+        second: 0,
+        third: 0,
+        cost: plan_cost(t, limits, used.cost),
+        trucks: used.count,
+    }
+}
+
+// The verdict by the loading rules, each over the whole plan before the next. The rules on single stacks are asked first, in one walk, since
+// most of them come first; of the others only those that come before the first one broken there.
+fn judge_loading(
+    t: &[u32],
+    limits: Limits,
+    rows: &[u32],
+    keys: &mut [u64],
+    order: &mut [u32],
+) -> Answer
+    requires { ⌜ HoldsRows limits (now t) (now rows) × (length (stacksIn limits (now t)) ≤ length (now keys))
+        × (length (stacksIn limits (now t)) ≤ length (now order)) ⌝ }
+    ensures { λ r. ⌜ r ≡ firstBroken loadingRules (instanceIn limits (now (t .entry))) (stacksIn limits (now (t .entry)))
+        (acceptance (cost (instanceIn limits (now (t .entry))) (stacksIn limits (now (t .entry))))
+        (length (usedTrucks (stacksIn limits (now (t .entry)))))) ⌝ }
+{
+    let first = first_on_stacks(t, limits, rows);
+    let found = ask_trucks(kinds_below(first.rank), t, limits, rows, keys, order);
+    let rank = first_rank(found, first.rank);
+    if rank == RULES {
+        let used = found.used;
+        return accept(t, limits, used);
+    }
+    let place = first.place;
+    let verdict = verdict_at(rank);
+    let rule = rule_at(rank);
+    match rule {
+        Rule::OfStacks(_) => refuse(verdict, place),
+        Rule::OfPairs(pair) => {
+            refuse(verdict, place_in(lowest_pair(pair, t, limits, rows, keys, order)))
+        }
+        Rule::OfTrucks(each) => refuse(verdict, place_in(truck_found(each, found))),
+    }
+}
+
+// The verdict on the plan of a filled table. The other slices are lent for the search alone: a word for each item and for each stack, and for
+// each stack a key and the words of its row. What stands in them before and afterwards does not matter.
+pub fn judge(
+    t: &[u32],
+    limits: Limits,
+    keys: &mut [u64],
+    order: &mut [u32],
+    rows: &mut [u32],
+) -> Answer
+    requires { ⌜ Filled limits (now t) × (length (instanceIn limits (now t) .items) ≤ length (now order))
+        × (length (stacksIn limits (now t)) ≤ length (now keys)) × (length (stacksIn limits (now t)) ≤ length (now order))
+        × (16 * length (stacksIn limits (now t)) ≤ length (now rows)) ⌝ }
+    ensures { λ r. ⌜ r ≡ verdictOn (instanceIn limits (now (t .entry))) (stacksIn limits (now (t .entry))) ⌝ }
+{
+    let found = lowest_not_once(t, limits, order);
+    match found {
+        Found::At(place) => return refuse(9, place),
+        Found::Nothing => {}
+    }
+    visit_stacks(t, limits, keys, order, rows);
+    judge_loading(t, limits, rows, keys, order)
 }

@@ -1,12 +1,12 @@
--- `judging::stack_inventory`: what is summed is the cost of the items from the current one on.
+-- `costs::stack_inventory`: what is summed is the cost of the items from the current one on.
 use native.Mathlib.Omega.{arith}
 use borrow.Author.Needs.{needs}
 use Rattle.meaning.specs.Table.{instanceIn, stacksIn}
 use Rattle.meaning.specs.Verdict.{inventoryCost}
 use Rattle.table.specs.Filled.{stackAt}
-use Rattle.judging.proofs.Cost.{Summed, summed-start, summed-more, summed-room, summed-end, itemCost, itemBound, item-cost, item-bound, load-bound}
-use Rattle.judging.proofs.stack_inventory.Statement.{statement}
-use Rattle.judging.proofs.stack_inventory.Tie as tie
+use Rattle.costs.proofs.Cost.{Summed, summed-start, summed-more, summed-room, summed-end, itemCost, itemBound, item-cost, item-bound, load-bound}
+use Rattle.costs.proofs.stack_inventory.Statement.{statement}
+use Rattle.costs.proofs.stack_inventory.Tie as tie
 
 abbrev Inv-loop : tie.InvT-loop
 Inv-loop t limits s arrival sum₀ j₀ sum j =
