@@ -3,16 +3,14 @@ ghost use mathlib.Core.Path.{_≡_};
 ghost use Prim.Native.Nat.{_+_, _-_, _*_, _≤_, _<_};
 ghost use lib.ListN.{length};
 ghost use Rattle.meaning.specs.Lists.{sum};
+ghost use Rattle.meaning.specs.Model.{item, IC, IDL};
 ghost use Rattle.meaning.specs.Table.{instanceIn, stacksIn};
 ghost use Rattle.meaning.specs.Verdict.{transportCost, inventoryCost};
-ghost use Rattle.table.specs.Filled.{Filled, stackAt, TruckNumber};
+ghost use Rattle.table.specs.Filled.{Filled, stackAt, ItemNumber, TruckNumber};
 ghost use Rattle.costs.specs.Costs.{usedTruck};
 use meaning::Limits;
 use table::extra_coefficient;
-use table::fields::IC;
-use table::fields::IDL;
-use table::fields::TC;
-use table::fields::TDA;
+use table::fields;
 use table::inventory_coefficient;
 use table::item_field;
 use table::load;
@@ -31,21 +29,29 @@ fn days_early(latest: u32, arrival: u32) -> u32
     latest - arrival
 }
 
-// The inventory cost of a stack, for each unit of its coefficient.
+// The inventory cost of an item that arrives on this day, for each unit of its coefficient.
+fn item_inventory(t: &[u32], limits: Limits, n: u32, arrival: u32) -> u64
+    requires { ⌜ Filled limits (now t) × ItemNumber (instanceIn limits (now t)) n ⌝ }
+    ensures { λ r. ⌜ (r ≡ IC (item (instanceIn limits (now (t .entry))) n) * (IDL (item (instanceIn limits (now (t .entry))) n) - arrival))
+        × (r ≤ 39900000) ⌝ }
+{
+    let days = days_early(item_field(t, limits, n, fields::IDL), arrival);
+    (item_field(t, limits, n, fields::IC) as u64) * (days as u64)
+}
+
+// The inventory cost of a stack.
 fn stack_inventory(t: &[u32], limits: Limits, s: usize) -> u64
     requires { ⌜ Filled limits (now t) × (s < length (stacksIn limits (now t))) ⌝ }
     ensures { λ r. ⌜ (r ≡ inventoryCost (instanceIn limits (now (t .entry))) (stackAt (stacksIn limits (now (t .entry))) s))
         × (r ≤ 39900000 * length (stackAt (stacksIn limits (now (t .entry))) s .load)) ⌝ }
 {
-    let arrival = truck_field(t, limits, stack_truck(t, limits, s), TDA);
+    let arrival = truck_field(t, limits, stack_truck(t, limits, s), fields::TDA);
     let items = load(t, limits, s);
     let mut sum: u64 = 0;
     let mut j = items.len();
     while 0 < j {
         j -= 1;
-        let n = items[j];
-        let days = days_early(item_field(t, limits, n, IDL), arrival);
-        sum = (item_field(t, limits, n, IC) as u64) * (days as u64) + sum;
+        sum = item_inventory(t, limits, items[j], arrival) + sum;
     }
     sum
 }
@@ -70,7 +76,7 @@ pub fn truck_cost(t: &[u32], limits: Limits, truck: u32, copy: u32) -> u64
     requires { ⌜ Filled limits (now t) × TruckNumber (instanceIn limits (now t)) truck ⌝ }
     ensures { λ r. ⌜ (r ≡ transportCost (instanceIn limits (now (t .entry))) (usedTruck truck copy)) × (r ≤ 2000000000) ⌝ }
 {
-    let cost = truck_field(t, limits, truck, TC) as u64;
+    let cost = truck_field(t, limits, truck, fields::TC) as u64;
     if copy == 0 {
         return cost * 1000;
     }

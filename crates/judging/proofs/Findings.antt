@@ -91,10 +91,9 @@ module _ {places : Instance → List Stack → List Place} {i : Instance} (by : 
       → (b ≡ true) ↔ (places i (drop end (visited p)) ≡ []) → ((a && b) ≡ true) ↔ (places i (drop start (visited p)) ≡ [])
   yes-more {start} {end} a b one parted ha hb =
       let both = and-reads a b in
-      let none = append-none (places i (block p start end)) (places i (drop end (visited p))) in
-      (
+      let none = append-none (places i (block p start end)) (places i (drop end (visited p))) in (
         (λ e. let t = both .0 e in split one parted ∙ none .1 (ha .0 (t .0), hb .0 (t .1))),
-        (λ e. let n = none .0 (sym (split one parted) ∙ e) in both .1 (ha .1 (n .0), hb .1 (n .1)))
+        (λ e. let n = none .0 (sym (split one parted) ∙ e) in both .1 (ha .1 (n .0), hb .1 (n .1))),
       )
 
   yes-all : (kept : Bool) → (kept ≡ true) ↔ (places i (visited p) ≡ []) → (kept ≡ true) ↔ (places i p ≡ [])

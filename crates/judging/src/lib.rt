@@ -169,8 +169,7 @@ fn asked_placement(
     on: Block,
     keys: &mut [u64],
     along: &mut [u32],
-) -> Placement
-{
+) -> Placement {
     if asked {
         return truck_placement(rows, on, keys, along);
     }
@@ -248,10 +247,7 @@ fn ask_trucks(
             asked_placement(asked.placement, rows, on, keys, along),
             placement,
         );
-        weights = joined_weights(
-            asked_weights(asked.weights, t, limits, rows, on),
-            weights,
-        );
+        weights = joined_weights(asked_weights(asked.weights, t, limits, rows, on), weights);
         used = with_truck(used, t, limits, rows, start);
         end = start;
     }
@@ -406,7 +402,10 @@ fn judge_loading(
     match rule {
         Rule::OfStacks(_) => refuse(verdict, place),
         Rule::OfPairs(pair) => {
-            refuse(verdict, place_in(lowest_pair(pair, t, limits, rows, keys, order)))
+            refuse(
+                verdict,
+                place_in(lowest_pair(pair, t, limits, rows, keys, order)),
+            )
         }
         Rule::OfTrucks(each) => refuse(verdict, place_in(truck_found(each, found))),
     }

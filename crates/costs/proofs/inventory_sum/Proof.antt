@@ -4,7 +4,7 @@ use borrow.Author.Needs.{needs}
 use Rattle.meaning.specs.Table.{instanceIn, stacksIn}
 use Rattle.meaning.specs.Verdict.{inventoryCost}
 use Rattle.table.specs.Filled.{noStack}
-use Rattle.costs.proofs.Cost.{Summed, summed-start, summed-more, summed-room, summed-end, stackBound, plan-bound}
+use Rattle.costs.proofs.Costs.{Summed, summed-start, summed-more, summed-room, summed-end, stackBound, plan-bound}
 use Rattle.costs.proofs.inventory_sum.Statement.{statement}
 use Rattle.costs.proofs.inventory_sum.Tie as tie
 

@@ -1,86 +1,87 @@
 -- `costs::stack_inventory`: what is summed is the cost of the items from the current one on.
+use mathlib.Core.Path.{refl, ap, _∙_}
+use Prim.Native.Nat.{_-_}
 use native.Mathlib.Omega.{arith}
 use borrow.Author.Needs.{needs}
+use Rattle.meaning.specs.Model.{truckNumbered, TDA}
 use Rattle.meaning.specs.Table.{instanceIn, stacksIn}
 use Rattle.meaning.specs.Verdict.{inventoryCost}
 use Rattle.table.specs.Filled.{stackAt}
-use Rattle.costs.proofs.Cost.{Summed, summed-start, summed-more, summed-room, summed-end, itemCost, itemBound, item-cost, item-bound, load-bound}
+use Rattle.costs.proofs.Costs.{Summed, summed-start, summed-more, summed-room, summed-end, itemCost, itemBound, item-cost, load-bound}
 use Rattle.costs.proofs.stack_inventory.Statement.{statement}
 use Rattle.costs.proofs.stack_inventory.Tie as tie
 
 abbrev Inv-loop : tie.InvT-loop
-Inv-loop t limits s arrival sum₀ j₀ sum j =
-    let a = stackAt (stacksIn limits t) s in
-    Summed (itemCost (instanceIn limits t) a) itemBound (a .load) j sum
+Inv-loop t limits s arrival items sum₀ j₀ sum j =
+    Summed (itemCost (instanceIn limits t) (stackAt (stacksIn limits t) s)) itemBound items j sum
 
 abbrev μ-loop : tie.MeasureT-loop
-μ-loop t limits s arrival sum₀ j₀ sum j = j
+μ-loop t limits s arrival items sum₀ j₀ sum j = j
 
-stack-truck-field-requires : tie.Need-stack-truck-field-requires Inv-loop μ-loop
-stack-truck-field-requires c κs = search needs
+stack-truck-requires : tie.Need-stack-truck-requires Inv-loop μ-loop
+stack-truck-requires c κs = search needs
 
-load-count-requires : tie.Need-load-count-requires Inv-loop μ-loop
-load-count-requires c κs = search needs
+truck-field-requires : tie.Need-truck-field-requires Inv-loop μ-loop
+truck-field-requires c κs = search needs
+
+load-requires : tie.Need-load-requires Inv-loop μ-loop
+load-requires c κs = search needs
 
 loop-holds : tie.Need-loop-holds Inv-loop μ-loop
-loop-holds c = summed-start (c .load-count .ensures .0)
+loop-holds c = summed-start refl
 
 sub-j : tie.Need-sub-j Inv-loop μ-loop
 sub-j c = search needs
 
-load-entry-requires : tie.Need-load-entry-requires Inv-loop μ-loop
-load-entry-requires c κs = search needs
+mul-item-inventory : tie.Need-mul-item-inventory Inv-loop μ-loop
+mul-item-inventory c =
+    let loop = c .before in
+    omega (arith, loop .loop .inv .down .upto, loop .before .load .ensures .1 .few)
 
-item-field-requires : tie.Need-item-field-requires Inv-loop μ-loop
-item-field-requires c κs = search needs
+shared-slice-read-item-inventory : tie.Need-shared-slice-read-item-inventory Inv-loop μ-loop
+shared-slice-read-item-inventory c =
+    let test = c .before in
+    omega (arith, test .before .loop .inv .down .upto, test .loop-test .taken)
 
-days-early-requires : tie.Need-days-early-requires Inv-loop μ-loop
-days-early-requires c κs = search needs
-
-item-field-requires-2 : tie.Need-item-field-requires-2 Inv-loop μ-loop
-item-field-requires-2 c κs = search needs
-
-cast-sum : tie.Need-cast-sum Inv-loop μ-loop
-cast-sum c = search needs
-
-cast-sum-2 : tie.Need-cast-sum-2 Inv-loop μ-loop
-cast-sum-2 c = search needs
-
-mul-sum : tie.Need-mul-sum Inv-loop μ-loop
-mul-sum c = omega (arith, item-bound (c .item-field2 .ensures .1) (c .before .days-early .ensures .1) (c .before .before .item-field .ensures .1))
+item-inventory-requires : tie.Need-item-inventory-requires Inv-loop μ-loop
+item-inventory-requires c κs =
+    let test = c .before in
+    let loop = test .before in
+    let items = loop .before in
+    let start = items .before .before .before .before in
+    (start .pre .0, items .load .ensures .1 .entries (loop .loop .j - 1) (omega (arith, loop .loop .inv .down .upto, test .loop-test .taken)))
 
 add-sum : tie.Need-add-sum Inv-loop μ-loop
 add-sum c =
-    let entry = c .before .before .before in
-    let l = entry .before .before in
-    let s = l .before .before .before .before in
-    let few = item-bound (c .item-field2 .ensures .1) (c .before .days-early .ensures .1) (c .before .before .item-field .ensures .1) in
-    let room = summed-room 0 (l .loop .inv) (entry .before .loop-test .taken) few in
-    omega (arith, room, load-bound (stackAt (stacksIn (s .args .limits) (s .args .t .now)) (s .args .s)))
+    let test = c .before .before in
+    let loop = test .before in
+    let room = summed-room 0 (loop .loop .inv) (test .loop-test .taken) (c .item-inventory .ensures .1) in
+    omega (arith, room, load-bound (loop .before .load .result .now), loop .before .load .ensures .1 .few)
 
 loop-less : tie.Need-loop-less Inv-loop μ-loop
 loop-less c = search needs
 
 loop-again : tie.Need-loop-again Inv-loop μ-loop
 loop-again c =
-    let entry = c .before .before .before in
-    let l = entry .before .before in
-    let s = l .before .before .before .before in
-    let i = instanceIn (s .args .limits) (s .args .t .now) in
-    let a = stackAt (stacksIn (s .args .limits) (s .args .t .now)) (s .args .s) in
-    let latest = c .before .before .item-field in
-    let days = c .before .days-early in
-    let price = c .item-field2 in
-    summed-more 0 (l .loop .inv) (entry .before .loop-test .taken)
-    (item-cost i a (entry .load-entry .ensures .0) (latest .ensures .0) (l .before .before .stack-truck-field .ensures .0) (days .ensures .0) (price .ensures .0))
-    (item-bound (price .ensures .1) (days .ensures .1) (latest .ensures .1))
+    let test = c .before .before in
+    let loop = test .before in
+    let items = loop .before in
+    let arrival = items .before in
+    let a = arrival .before .before .before .args in
+    let i = instanceIn (a .limits) (a .t .now) in
+    let s = stackAt (stacksIn (a .limits) (a .t .now)) (a .s) in
+    let day = arrival .truck-field .ensures .0 ∙ ap (λ n. TDA (truckNumbered i n)) (arrival .before .stack-truck .ensures .0) in
+    summed-more 0 (loop .loop .inv) (test .loop-test .taken) (item-cost i s (c .item-inventory .ensures .0) refl day) (c .item-inventory .ensures .1)
 
 returns : tie.Need-returns Inv-loop μ-loop
 unfolding inventoryCost
 returns c =
-    let s = c .before .before .before .before .before in
-    let all = summed-end (c .before .loop .inv) (c .loop-test .left) in
-    (all .0, omega (arith, all .1, load-bound (stackAt (stacksIn (s .args .limits) (s .args .t .now)) (s .args .s))))
+    let loop = c .before in
+    let items = loop .before .load in
+    let a = loop .before .before .before .before .before .args in
+    let all = summed-end (loop .loop .inv) (c .loop-test .left) in
+    let same = items .ensures .0 in
+    (rw (← same) (all .0), rw (← same) (omega (arith, all .1, load-bound (items .result .now))))
 
 pub stack-inventory-spec : {M : Type 1} → statement M
 stack-inventory-spec =
@@ -88,17 +89,14 @@ stack-inventory-spec =
     (tie.spec
     Inv-loop
     μ-loop
-    stack-truck-field-requires
-    load-count-requires
+    stack-truck-requires
+    truck-field-requires
+    load-requires
     loop-holds
     sub-j
-    load-entry-requires
-    item-field-requires
-    days-early-requires
-    item-field-requires-2
-    cast-sum
-    cast-sum-2
-    mul-sum
+    mul-item-inventory
+    shared-slice-read-item-inventory
+    item-inventory-requires
     add-sum
     loop-less
     loop-again

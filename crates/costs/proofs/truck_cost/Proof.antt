@@ -2,7 +2,7 @@
 use native.Mathlib.Omega.{arith}
 use borrow.Author.Needs.{needs}
 use Rattle.meaning.specs.Table.{instanceIn}
-use Rattle.costs.proofs.Cost.{planned-cost, extra-cost, truck-bound}
+use Rattle.costs.proofs.Costs.{planned-cost, extra-cost, truck-bound}
 use Rattle.costs.proofs.truck_cost.Statement.{statement}
 use Rattle.costs.proofs.truck_cost.Tie as tie
 
