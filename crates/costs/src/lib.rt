@@ -89,8 +89,8 @@ pub fn plan_cost(t: &[u32], limits: Limits, transport: u64) -> u64
     ensures { λ r. ⌜ r ≡ instanceIn limits (now (t .entry)) .αT * transport
         + 1000 * instanceIn limits (now (t .entry)) .αI * sum (inventoryCost (instanceIn limits (now (t .entry)))) (stacksIn limits (now (t .entry))) ⌝ }
 {
+    let per_transport = transport_coefficient(t, limits) as u64;
+    let per_inventory = inventory_coefficient(t, limits) as u64;
     let inventory = inventory_sum(t, limits);
-    let transport_share = (transport_coefficient(t, limits) as u64) * transport;
-    let inventory_share = 1000 * (inventory_coefficient(t, limits) as u64) * inventory;
-    transport_share + inventory_share
+    per_transport * transport + 1000 * per_inventory * inventory
 }

@@ -6,62 +6,58 @@ use borrow.Author.Needs.{needs}
 use Rattle.costs.proofs.plan_cost.Statement.{statement}
 use Rattle.costs.proofs.plan_cost.Tie as tie
 
-inventory-sum-requires : tie.Need-inventory-sum-requires
-inventory-sum-requires c κs = search needs
-
 transport-coefficient-requires : tie.Need-transport-coefficient-requires
 transport-coefficient-requires c κs = search needs
 
-cast-transport-share : tie.Need-cast-transport-share
-cast-transport-share c = search needs
-
-mul-transport-share : tie.Need-mul-transport-share
-mul-transport-share c =
-    let start = c .before .before .before in
-    omega (arith, mul-le-mul (c .transport-coefficient .ensures .1) (start .pre .1))
+cast-per-transport : tie.Need-cast-per-transport
+cast-per-transport c = search needs
 
 inventory-coefficient-requires : tie.Need-inventory-coefficient-requires
 inventory-coefficient-requires c κs = search needs
 
-cast-inventory-share : tie.Need-cast-inventory-share
-cast-inventory-share c = search needs
+cast-per-inventory : tie.Need-cast-per-inventory
+cast-per-inventory c = search needs
 
-mul-inventory-share : tie.Need-mul-inventory-share
-mul-inventory-share c = search needs
+inventory-sum-requires : tie.Need-inventory-sum-requires
+inventory-sum-requires c κs = search needs
 
-mul-inventory-share-2 : tie.Need-mul-inventory-share-2
-mul-inventory-share-2 c =
-    let inventory = c .before .before .inventory-sum in
-    omega (arith, mul-le-mul (mul-le-mul-left 1000 (c .inventory-coefficient .ensures .1)) (inventory .ensures .1))
+mul-result : tie.Need-mul-result
+mul-result c =
+    let transport = c .before .before in
+    omega (arith, mul-le-mul (transport .transport-coefficient .ensures .1) (transport .before .before .pre .1))
+
+mul-result-2 : tie.Need-mul-result-2
+mul-result-2 c = search needs
+
+mul-result-3 : tie.Need-mul-result-3
+mul-result-3 c = omega (arith, mul-le-mul (mul-le-mul-left 1000 (c .before .inventory-coefficient .ensures .1)) (c .inventory-sum .ensures .1))
 
 add-result : tie.Need-add-result
 add-result c =
-    let transport = c .before .transport-coefficient in
-    let inventory = c .before .before .inventory-sum in
-    let start = c .before .before .before .before in
+    let inventory = c .before in
+    let transport = inventory .before in
     omega (
       arith,
-      mul-le-mul (mul-le-mul-left 1000 (c .inventory-coefficient .ensures .1)) (inventory .ensures .1),
-      mul-le-mul (transport .ensures .1) (start .pre .1),
+      mul-le-mul (mul-le-mul-left 1000 (inventory .inventory-coefficient .ensures .1)) (c .inventory-sum .ensures .1),
+      mul-le-mul (transport .transport-coefficient .ensures .1) (transport .before .before .pre .1),
     )
 
 returns : tie.Need-returns
 returns c =
-    let transport = c .before .transport-coefficient in
-    let inventory = c .before .before .inventory-sum in
-    rw (transport .ensures .0, c .inventory-coefficient .ensures .0, inventory .ensures .0) refl
+    let inventory = c .before in
+    rw (inventory .before .transport-coefficient .ensures .0, inventory .inventory-coefficient .ensures .0, c .inventory-sum .ensures .0) refl
 
 pub plan-cost-spec : {M : Type 1} → statement M
 plan-cost-spec =
     tie.close
     (tie.spec
-    inventory-sum-requires
     transport-coefficient-requires
-    cast-transport-share
-    mul-transport-share
+    cast-per-transport
     inventory-coefficient-requires
-    cast-inventory-share
-    mul-inventory-share
-    mul-inventory-share-2
+    cast-per-inventory
+    inventory-sum-requires
+    mul-result
+    mul-result-2
+    mul-result-3
     add-result
     returns)
