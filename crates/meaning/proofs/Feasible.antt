@@ -12,7 +12,7 @@ use Rattle.meaning.specs.Claims.{KeptBy, AcceptedWhenFeasible}
 use Rattle.meaning.proofs.Tests.{iff-trans}
 use Rattle.meaning.proofs.Lists.{every-append}
 use Rattle.meaning.proofs.RuleKinds.{stacks-kept}
-use Rattle.meaning.proofs.Sound.{Sound, meets-sound}
+use Rattle.meaning.proofs.WellFormed.{WellFormed, meets-formed}
 use Rattle.meaning.proofs.Ranges.{read-meets}
 use Rattle.meaning.proofs.Readable.{readable-answer}
 use Rattle.meaning.proofs.Accepted.{accepted-exactly}
@@ -24,7 +24,7 @@ use Rattle.meaning.proofs.Chains.{chains-exactly}
 use Rattle.meaning.proofs.LoadingOrder.{order-exactly}
 use Rattle.meaning.proofs.Levers.{weights-exactly, levers-exactly}
 
-module _ (i : Instance) (p : List Stack) (sound : Sound i p) where
+module _ (i : Instance) (p : List Stack) (formed : WellFormed i p) where
   -- the rules of each family
   record KeptRules : Type 0 where
     items : Every (KeptBy i p) itemRules
@@ -52,11 +52,11 @@ module _ (i : Instance) (p : List Stack) (sound : Sound i p) where
       let a = h .items .1 in
       let s = h .stacks in
       let q = h .placement in
-      let fits = items-exactly i p sound .0 (a .0, a .1 .0, a .1 .1 .0, a .1 .1 .1 .0, a .1 .1 .1 .1 .0) in
+      let fits = items-exactly i p formed .0 (a .0, a .1 .0, a .1 .1 .0, a .1 .1 .1 .0, a .1 .1 .1 .1 .0) in
       let stacks =
-      stacks-exactly i p sound (λ r m n k. fits r m n k .plantDock) .0
+      stacks-exactly i p formed (λ r m n k. fits r m n k .plantDock) .0
       (s .0, s .1 .0, s .1 .1 .1 .0, s .1 .1 .1 .1 .0, s .1 .1 .1 .1 .1 .0, s .1 .1 .1 .1 .1 .1 .0) in
-      let inside = inside-exactly i p sound .0 (q .0) in
+      let inside = inside-exactly i p formed .0 (q .0) in
       record {
         rules =
             record {
@@ -66,27 +66,27 @@ module _ (i : Instance) (p : List Stack) (sound : Sound i p) where
               singlePair = pairs-exactly i p (stacks-kept i p plantDocksAllowed plantDockCount .0 (s .1 .0)) .0 (s .1 .1 .0);
               heights = λ r m. inside r m .2;
               weights = weights-exactly i p .0 (h .weights .0);
-              order = order-exactly i p sound fits .0 (q .1 .1 .1 .0);
+              order = order-exactly i p formed fits .0 (q .1 .1 .1 .0);
             };
-        floor = floor-exactly i p sound .0 (q .1 .0);
-        onFloor = λ r m. on-floor-exactly i p sound r m .0 (inside r m .0, inside r m .1);
-        chains = chains-exactly i p sound .0 (q .1 .1 .0);
-        levers = levers-exactly i p sound .0 (h .weights .1 .0, h .weights .1 .1 .0);
+        floor = floor-exactly i p formed .0 (q .1 .0);
+        onFloor = λ r m. on-floor-exactly i p formed r m .0 (inside r m .0, inside r m .1);
+        chains = chains-exactly i p formed .0 (q .1 .1 .0);
+        levers = levers-exactly i p formed .0 (h .weights .1 .0, h .weights .1 .1 .0);
       }
 
   holds-kept : Feasible i p → KeptRules
   unfolding itemRules stackRules placementRules weightRules
   holds-kept f =
       let r = f .rules in
-      let a = items-exactly i p sound .1 (r .items) in
-      let s = stacks-exactly i p sound (λ t m n k. r .items t m n k .plantDock) .1 (r .stacks) in
+      let a = items-exactly i p formed .1 (r .items) in
+      let s = stacks-exactly i p formed (λ t m n k. r .items t m n k .plantDock) .1 (r .stacks) in
       let pair = pairs-exactly i p (stacks-kept i p plantDocksAllowed plantDockCount .0 (s .1)) .1 (r .singlePair) in
-      let inside = inside-exactly i p sound .1 (λ t m. let k = on-floor-exactly i p sound t m .1 (f .onFloor t m) in (k .0, k .1, r .heights t m)) in
-      let axles = levers-exactly i p sound .1 (f .levers) in
+      let inside = inside-exactly i p formed .1 (λ t m. let k = on-floor-exactly i p formed t m .1 (f .onFloor t m) in (k .0, k .1, r .heights t m)) in
+      let axles = levers-exactly i p formed .1 (f .levers) in
       record {
         items = (once-exactly i p .1 (r .once), (a .0, (a .1, (a .2, (a .3, (a .4, tt))))));
         stacks = (s .0, (s .1, (pair, (s .2, (s .3, (s .4, (s .5, tt)))))));
-        placement = (inside, (floor-exactly i p sound .1 (f .floor), (chains-exactly i p sound .1 (f .chains), (order-exactly i p sound (r .items) .1 (r .order), tt))));
+        placement = (inside, (floor-exactly i p formed .1 (f .floor), (chains-exactly i p formed .1 (f .chains), (order-exactly i p formed (r .items) .1 (r .order), tt))));
         weights = (weights-exactly i p .1 (r .weights), (axles .0, (axles .1, tt)));
       }
 
@@ -97,4 +97,4 @@ pub accepted-when-feasible : (m : Limits) → AcceptedWhenFeasible m
 accepted-when-feasible m n instance plan r =
     let i = r .files .says in
     let p = r .files .stacks in
-    rw (readable-answer m n instance plan r) (verdict-exactly i p (meets-sound m i p (read-meets m instance plan (r .files))))
+    rw (readable-answer m n instance plan r) (verdict-exactly i p (meets-formed m i p (read-meets m instance plan (r .files))))

@@ -19,7 +19,7 @@ use Rattle.meaning.proofs.Tests.{and-reads, le-reads, between-reads, if
 use Rattle.meaning.proofs.Lists.{in-filter, filter-append, in-upFrom, flatMap-none, unless-none, listed-reads}
 use Rattle.meaning.proofs.Orders.{stands-first, stands-later, stands-cases, stands-in, order-in, order-stands, stands-order, list-at}
 use Rattle.meaning.proofs.RuleKinds.{items-kept}
-use Rattle.meaning.proofs.Sound.{Sound}
+use Rattle.meaning.proofs.WellFormed.{WellFormed}
 
 -- ---- how often a number stands in a list
 abbrev times : ℕ → List ℕ → ℕ
@@ -171,11 +171,11 @@ module _ (i : Instance) (s : Stack) (n : ℕ) where
   )
 
 -- 10 to 14: each loaded item fits its truck
-pub items-exactly : (i : Instance) (p : List Stack) → Sound i p
+pub items-exactly : (i : Instance) (p : List Stack) → WellFormed i p
     → ((itemPlaces plantMatches i p ≡ []) × (itemPlaces productCarried i p ≡ []) × (itemPlaces supplierVisited i p ≡ []) × (itemPlaces arrivesInWindow i p ≡ [])
     × (itemPlaces docksServed i p ≡ []))
     ↔ ((s : Stack) → In s p → (n : ℕ) → In n (s .load) → ItemFits i s n)
-items-exactly i p sound = (
+items-exactly i p formed = (
   (λ h s m n k. passes-fit i s n (
     items-kept i p plantMatches .0 (h .0) s m n k,
     items-kept i p productCarried .0 (h .1) s m n k,
@@ -184,7 +184,7 @@ items-exactly i p sound = (
     items-kept i p docksServed .0 (h .4) s m n k,
   )),
   (λ f.
-      let passes : (s : Stack) → In s p → (n : ℕ) → In n (s .load) → Passes i s n = λ s m n k. fit-passes i s n (sound .stacks s m .suppliers) (f s m n k) in (
+      let passes : (s : Stack) → In s p → (n : ℕ) → In n (s .load) → Passes i s n = λ s m n k. fit-passes i s n (formed .stacks s m .suppliers) (f s m n k) in (
         items-kept i p plantMatches .1 (λ s m n k. passes s m n k .0),
         items-kept i p productCarried .1 (λ s m n k. passes s m n k .1),
         items-kept i p supplierVisited .1 (λ s m n k. passes s m n k .2),

@@ -20,7 +20,7 @@ use Rattle.meaning.proofs.Tests.{true≢false, and-reads, or-reads, not
 use Rattle.meaning.proofs.Lists.{NoRepeat, in-dedup, dedup-noRepeat, in-map}
 use Rattle.meaning.proofs.Orders.{order-stands, stands-order}
 use Rattle.meaning.proofs.RuleKinds.{items-kept, stacks-kept, pairs-kept}
-use Rattle.meaning.proofs.Sound.{Sound, SoundStack}
+use Rattle.meaning.proofs.WellFormed.{WellFormed, WellFormedStack}
 use Rattle.meaning.proofs.SignedSums.{le-signed, weight-signed}
 
 -- ---- lists of numbers without repeats
@@ -262,28 +262,28 @@ module _ (i : Instance) (p : List Stack) (s : Stack) where
   stack-alike h n m = let k = h .items n m in alike-reads i s (item i n) .1 (k .supplier, k .plant, k .code, k .maximal, k .dock)
 
   -- back: the bottom item is one of them
-  stack-few : SoundStack i s → StackFits i s → stackabilityKept i p s ≡ true
-  stack-few sound h = le-leb (length (s .load)) (ISM (bottomItem i s)) (h .items (getD (s .load) 0 0) (sound .some) .notTooMany)
+  stack-few : WellFormedStack i s → StackFits i s → stackabilityKept i p s ≡ true
+  stack-few formed h = le-leb (length (s .load)) (ISM (bottomItem i s)) (h .items (getD (s .load) 0 0) (formed .some) .notTooMany)
 
 -- 15, 16 and 18 to 21: each stack fits its truck
-pub stacks-exactly : (i : Instance) (p : List Stack) → Sound i p
+pub stacks-exactly : (i : Instance) (p : List Stack) → WellFormed i p
     → ((s : Stack) → In s p → (n : ℕ) → In n (s .load) → In (IG (item i n)) (truckOf i s .plantDocks))
     → ((itemPlaces stackable i p ≡ []) × (stackPlaces plantDocksAllowed plantDockCount i p ≡ []) × (itemPlaces orientationKept i p ≡ []) × (stackPlaces topWeightWithin weightAbove i p ≡ [])
     × (stackPlaces stackabilityKept itemCount i p ≡ []) × (stackPlaces densityWithin sm i p ≡ []))
     ↔ ((s : Stack) → In s p → StackFits i s)
-stacks-exactly i p sound docked = (
+stacks-exactly i p formed docked = (
   (λ h s m. record {
     items = items-stack i p s (items-kept i p stackable .0 (h .0) s m) (items-kept i p orientationKept .0 (h .2) s m) (stacks-kept i p stackabilityKept itemCount .0 (h .4) s m);
-    docks = docks-exactly i s (docked s m) (sound .stacks s m .plantDocks) p .0 (stacks-kept i p plantDocksAllowed plantDockCount .0 (h .1) s m);
+    docks = docks-exactly i s (docked s m) (formed .stacks s m .plantDocks) p .0 (stacks-kept i p plantDocksAllowed plantDockCount .0 (h .1) s m);
     topWeight = top-exactly i p s .0 (stacks-kept i p topWeightWithin weightAbove .0 (h .3) s m);
     density = density-exactly i p s .0 (stacks-kept i p densityWithin sm .0 (h .5) s m);
   }),
   (λ f. (
     items-kept i p stackable .1 (λ s m. stack-alike i p s (f s m)),
-    stacks-kept i p plantDocksAllowed plantDockCount .1 (λ s m. docks-exactly i s (docked s m) (sound .stacks s m .plantDocks) p .1 (f s m .docks)),
+    stacks-kept i p plantDocksAllowed plantDockCount .1 (λ s m. docks-exactly i s (docked s m) (formed .stacks s m .plantDocks) p .1 (f s m .docks)),
     items-kept i p orientationKept .1 (λ s m n k. turned-reads i s (item i n) .1 (f s m .items n k .turned)),
     stacks-kept i p topWeightWithin weightAbove .1 (λ s m. top-exactly i p s .1 (f s m .topWeight)),
-    stacks-kept i p stackabilityKept itemCount .1 (λ s m. stack-few i p s (sound .stacks s m) (f s m)),
+    stacks-kept i p stackabilityKept itemCount .1 (λ s m. stack-few i p s (formed .stacks s m) (f s m)),
     stacks-kept i p densityWithin sm .1 (λ s m. density-exactly i p s .1 (f s m .density)),
   )),
 )
