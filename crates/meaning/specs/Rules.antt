@@ -224,12 +224,15 @@ infix 80 _at_
 abbrev pub _at_ : ℕ → (Instance → List Stack → List Place) → Rule
 n at places = record { verdict = n; places = places }
 
--- "Item rules are 9 to 14"
+-- rule 9 stands apart: it alone asks for items that no stack has
+abbrev pub notOnceRule : Rule
+notOnceRule = 9 at notOnce
+
+-- the item rules but for 9: "Item rules are 9 to 14"
 unfoldable pub itemRules : List Rule
-unfolding notOnce itemPlaces any orderFrom
+unfolding itemPlaces any orderFrom
 itemRules =
-    9 at notOnce
-    ∷ 10 at itemPlaces plantMatches
+    10 at itemPlaces plantMatches
     ∷ 11 at itemPlaces productCarried
     ∷ 12 at itemPlaces supplierVisited
     ∷ 13 at itemPlaces arrivesInWindow
@@ -268,7 +271,12 @@ weightRules =
     ∷ 28 at departurePlaces rearAxleHolds
     ∷ []
 
--- all of 9 to 28
-unfoldable pub rules : List Rule
+-- all rules but 9, in the order of the verdict table: a verdict's number is a rule's name, and not its place
+unfoldable pub loadingRules : List Rule
 unfolding itemRules stackRules placementRules weightRules
-rules = itemRules ++ (stackRules ++ (placementRules ++ weightRules))
+loadingRules = itemRules ++ (stackRules ++ (placementRules ++ weightRules))
+
+-- all rules
+unfoldable pub rules : List Rule
+unfolding notOnce loadingRules
+rules = notOnceRule ∷ loadingRules
