@@ -12,7 +12,7 @@ use Rattle.meaning.specs.Model.{Instance, Truck, Stack, item, truckNumbered, tr
 use Rattle.meaning.specs.Measures.{bottom, weight, height, supplierDockOrder}
 use Rattle.meaning.proofs.Sums.{sum-below, sum-drop}
 use Rattle.meaning.proofs.Orders.{list-at}
-use Rattle.meaning.proofs.Sound.{SoundStack}
+use Rattle.meaning.proofs.WellFormed.{WellFormedStack}
 use Rattle.table.specs.Filled.{docksAtOrder}
 use Rattle.views.specs.declared.Extent.{Extent}
 use Rattle.views.specs.declared.Footprint.{Footprint}
@@ -44,7 +44,7 @@ module _ (i : Instance) (a : Stack) where
   -- ---- weight and height
   module _ {heights nested : ℕ} (eh : heights ≡ sum (λ n. IH (item i n)) (a .load)) (en : nested ≡ sum (λ n. nesting (item i n)) (drop 1 (a .load))) where
     -- no item nests deeper than it is high
-    pub nested-less : SoundStack i a → nested ≤ heights
+    pub nested-less : WellFormedStack i a → nested ≤ heights
     nested-less h =
         let high : ℕ → ℕ = λ n. IH (item i n) in
         let deep : ℕ → ℕ = λ n. nesting (item i n) in

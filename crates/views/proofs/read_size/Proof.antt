@@ -2,7 +2,7 @@
 use borrow.Author.Needs.{needs}
 use Rattle.meaning.specs.Table.{instanceIn, stacksIn}
 use Rattle.meaning.proofs.Lists.{at-in}
-use Rattle.meaning.proofs.Sound.{meets-sound}
+use Rattle.meaning.proofs.WellFormed.{meets-formed}
 use Rattle.table.specs.Filled.{noStack, stackAt}
 use Rattle.views.proofs.Stacks.{nested-less, size-is}
 use Rattle.views.proofs.read_size.Statement.{statement}
@@ -24,8 +24,8 @@ sub-t7 c =
     let a = s .args in
     let i = instanceIn (a .limits) (a .t .now) in
     let p = stacksIn (a .limits) (a .t .now) in
-    let sound = meets-sound (a .limits) i p (s .pre .0 .range) .stacks (stackAt p (a .s)) (at-in p noStack (a .s) (s .pre .1)) in
-    nested-less i (stackAt p (a .s)) (heights .load-sum2 .ensures .0) (c .load-sum3 .ensures .0) sound
+    let formed = meets-formed (a .limits) i p (s .pre .0 .range) .stacks (stackAt p (a .s)) (at-in p noStack (a .s) (s .pre .1)) in
+    nested-less i (stackAt p (a .s)) (heights .load-sum2 .ensures .0) (c .load-sum3 .ensures .0) formed
 
 returns : tie.Need-returns
 returns c =
