@@ -12,7 +12,7 @@ use Rattle.meaning.proofs.Permute.{length-perm, sum-perm}
 use Rattle.meaning.proofs.VerdictOrder.{usedTrucks-perm}
 use Rattle.visits.specs.Visits.{visitAt, visited, block, OneTruck, Parted}
 use Rattle.visits.proofs.Order.{visited-length, visited-perm}
-use Rattle.visits.proofs.UsedTrucks.{block-split, block-length, block-used, block-apart, used-one}
+use Rattle.visits.proofs.UsedTrucks.{parted-end, block-split, block-length, block-used, block-apart, used-one}
 use Rattle.costs.specs.Costs.{usedTruck}
 use Rattle.judging.specs.Judging.{CountsTrucks}
 use Rattle.judging.proofs.Apart.{used-apart}
@@ -53,10 +53,10 @@ module _ {i : Instance} {p : List Stack} where
       }
 
   -- one used truck more
-  pub counted-more : {start end count cost r : ℕ} → Counted i p end count cost → OneTruck p start end → Parted p start
-      → r ≡ transportCost i (usedBy (visitAt p start)) → r ≤ 2000000000 → Counted i p start (count + 1) (r + cost)
+  pub counted-more : {start end count cost count′ cost′ : ℕ} → Counted i p end count cost → OneTruck p start end → Parted p start
+      → (count′ ≡ count + 1) × (cost′ ≡ transportCost i (usedBy (visitAt p start)) + cost) × (cost′ ≤ cost + 2000000000) → Counted i p start count′ cost′
   unfolding sum
-  counted-more {start} {end} {count} {cost} {r} h one parted e few =
+  counted-more h one parted paid =
       let more = used-more i one (h .parted) in
       record {
         parted = parted;
@@ -66,16 +66,18 @@ module _ {i : Instance} {p : List Stack} where
         few = omega arith;
       }
 
-  pub counted-end : {end count cost : ℕ} → Counted i p end count cost → end ≤ 0
-      → (count ≡ length (usedTrucks p)) × (cost ≡ sum (transportCost i) (usedTrucks p))
-  counted-end {end} h k =
+  pub counted-end : {end count cost : ℕ} → Counted i p end count cost → end ≤ 0 → length p ≤ 2097152 → CountsTrucks i p count cost
+  counted-end {end} h k few =
       let e : end ≡ 0 = omega arith in
       let all = usedTrucks-perm i p (visited p) (visited-perm p) in
-      (h .counted ∙ rw e (sym (length-perm all)), h .paid ∙ rw e (sym (sum-perm (transportCost i) all)))
+      record {
+        counted = h .counted ∙ rw e (sym (length-perm all));
+        paid = h .paid ∙ rw e (sym (sum-perm (transportCost i) all));
+        few = omega (arith, h .within, h .few);
+      }
 
 -- ---- the whole cost
-pub accepted : (i : Instance) (p : List Stack) {a b paid stored count : ℕ} → a ≡ i .αT → b ≡ i .αI → paid ≡ sum (transportCost i) (usedTrucks p)
-    → stored ≡ sum (inventoryCost i) p → count ≡ length (usedTrucks p)
-    → acceptance (a * paid + 1000 * b * stored) count ≡ acceptance (cost i p) (length (usedTrucks p))
+pub accepted : {i : Instance} {p : List Stack} {count paid whole : ℕ} → CountsTrucks i p count paid → whole ≡ i .αT * paid + 1000 * i .αI * sum (inventoryCost i) p
+    → acceptance whole count ≡ acceptance (cost i p) (length (usedTrucks p))
 unfolding cost
-accepted i p ea eb ep es ec = rw (ea, eb, ep, es, ec) refl
+accepted h e = rw (e, h .paid, h .counted) refl

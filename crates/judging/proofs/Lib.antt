@@ -1,5 +1,5 @@
 pub mod Apart
-pub mod Findings
-pub mod Asking
 pub mod Cost
+pub mod Told
+pub mod Asking
 pub mod Verdicts

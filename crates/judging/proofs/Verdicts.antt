@@ -10,7 +10,7 @@ use native.Mathlib.Omega.{arith}
 use borrow.Author.Tests.{not-true, not-false}
 use Rattle.meaning.specs.declared.Place.{Place}
 use Rattle.meaning.specs.Model.{Instance, Stack}
-use Rattle.meaning.proofs.Tests.{true≢false}
+use Rattle.meaning.proofs.Tests.{true≢false, fails}
 use Rattle.search.specs.Lowest.{lowestIn}
 use Rattle.search.specs.declared.Found.{Found}
 use Rattle.search.specs.declared.Found.the-variants.{At, Nothing}
@@ -35,6 +35,16 @@ found-some : (f : Found) → nothing f ≡ false → At (placeIn f) ≡ f
 found-some (At p) e = refl
 found-some Nothing e = absurd (true≢false e)
 
+pub kept-told : {f g : Found} {none : Bool} → f ≡ g → (none ≡ true) ↔ (f ≡ Nothing) → none ≡ nothing g
+kept-told {f} {g} {none} e h = by-kind g e
+  where
+    by-kind : (g : Found) → f ≡ g → none ≡ nothing g
+    by-kind (At p) e = fails none (λ t. absurd (never p (sym e ∙ h .0 t)))
+    by-kind Nothing e = h .1 e
+
+    never : (p : Place) → At p ≡ Nothing → ⊥
+    never p e = let z : _≡_ {A = ℕ} 0 1 = cc in omega arith
+
 -- a search that is made where a rule is not kept finds a place
 pub lowest-broken : {f : Found} {places : List Place} {kept : Bool} → f ≡ lowestIn places → (kept ≡ true) ↔ (places ≡ []) → kept ≡ false
     → At (placeIn f) ≡ lowestIn places
@@ -45,11 +55,11 @@ lowest-broken {f} {places} e tells broken = by-kind (nothing f) refl
     by-kind false z = found-some f z ∙ e
 
 -- ---- a rule that the used trucks tell to be kept
-told-kept : {asked : Asked} {i : Instance} {p : List Stack} (f : Findings) (rule : Rule) → isAsked asked rule ≡ true → Tells rule i p f → keptBy rule f ≡ true
+told-kept : (asked : Asked) (i : Instance) (p : List Stack) (f : Findings) (rule : Rule) → isAsked asked rule ≡ true → Tells rule i p f → keptBy rule f ≡ true
     → rulePlaces rule i p ≡ []
-told-kept f (OfStacks rule) a h e = absurd (true≢false (sym a))
-told-kept f (OfPairs rule) a h e = h .0 e
-told-kept f (OfTrucks rule) a h e = none-listed _ (found-none (truckFound rule f) e ∙ h)
+told-kept asked i p f (OfStacks rule) a h e = absurd (true≢false (sym a))
+told-kept asked i p f (OfPairs rule) a h e = h .0 e
+told-kept asked i p f (OfTrucks rule) a h e = none-listed _ (found-none (truckFound rule f) e ∙ h)
 
 -- ---- the loop over the ranks
 -- the rules below `rank` are told to be kept
@@ -84,7 +94,7 @@ module _ {i : Instance} {p : List Stack} {b : Breach} {asked : Asked} {f : Findi
     where
       go : (k : ℕ) → k < rank → (onStack (ruleAt k) ≡ true) ⊎ (isAsked asked (ruleAt k) ≡ true) → rulePlaces (ruleAt k) i p ≡ []
       go k below (inl s) = first .kept k (omega (arith, r .within)) s
-      go k below (inr a) = told-kept {asked} f (ruleAt k) a (tells .each (ruleAt k) a) (r .kept k below)
+      go k below (inr a) = told-kept asked i p f (ruleAt k) a (tells .each (ruleAt k) a) (r .kept k below)
 
   -- where a rule on single stacks is broken at that rank, it is the first of them
   pub on-stacks : rank < ruleCount → onStack (ruleAt rank) ≡ true → At (b .place) ≡ lowestIn (rulePlaces (ruleAt rank) i p)
@@ -110,7 +120,7 @@ module _ {i : Instance} {p : List Stack} {b : Breach} {asked : Asked} {f : Findi
     told-broken = r .broken below
 
 -- by the kind of the rule at that rank
-module _ {i : Instance} {p : List Stack} {f : Findings} where
+module _ (i : Instance) (p : List Stack) (f : Findings) where
   pub pair-broken : {rule : Rule} (pair : PairRule) {found : Found} → rule ≡ OfPairs pair → Tells rule i p f → keptBy rule f ≡ false
       → found ≡ lowestIn (rulePlaces (OfPairs pair) i p) → At (placeIn found) ≡ lowestIn (rulePlaces rule i p)
   pair-broken pair e h broken is = rw e (lowest-broken is (rw e at h) (rw e at broken))

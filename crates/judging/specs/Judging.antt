@@ -10,6 +10,7 @@ use Rattle.meaning.specs.Lists.{sum}
 use Rattle.meaning.specs.Places.{place}
 use Rattle.meaning.specs.Model.{Instance, Stack}
 use Rattle.meaning.specs.Measures.{usedTrucks}
+use Rattle.meaning.specs.Rules.{truckPlaces, departurePlaces, withinLoadLimit, middleAxleHolds, rearAxleHolds}
 use Rattle.meaning.specs.Verdict.{transportCost}
 use Rattle.search.specs.declared.Found.{Found}
 use Rattle.search.specs.declared.Found.the-variants.{At, Nothing}
@@ -38,16 +39,32 @@ isAsked asked (OfTrucks Overload) = asked .weights
 isAsked asked (OfTrucks Middle) = asked .weights
 isAsked asked (OfTrucks Rear) = asked .weights
 
--- what is asked, with the kind of one rule more
+-- what is asked, with one kind more
+abbrev pub withPlacement : Asked → Asked
+withPlacement asked = record { «single_pair» = asked .«single_pair»; placement = true; weights = asked .weights }
+
+-- the same for the weight rules
+abbrev pub withWeights : Asked → Asked
+withWeights asked = record { «single_pair» = asked .«single_pair»; placement = asked .placement; weights = true }
+
+-- with the kind of one rule on pairs more
+abbrev pub withPairRule : Asked → PairRule → Asked
+withPairRule asked SecondPair = record { «single_pair» = true; placement = asked .placement; weights = asked .weights }
+withPairRule asked Overlap = withPlacement asked
+withPairRule asked Order = withPlacement asked
+
+-- with that of one rule on all stacks of a used truck more
+abbrev pub withTruckRule : Asked → TruckRule → Asked
+withTruckRule asked Unbraced = withPlacement asked
+withTruckRule asked Overload = withWeights asked
+withTruckRule asked Middle = withWeights asked
+withTruckRule asked Rear = withWeights asked
+
+-- with that of any rule more
 abbrev pub withRule : Asked → Rule → Asked
 withRule asked (OfStacks rule) = asked
-withRule asked (OfPairs SecondPair) = record { «single_pair» = true; placement = asked .placement; weights = asked .weights }
-withRule asked (OfPairs Overlap) = record { «single_pair» = asked .«single_pair»; placement = true; weights = asked .weights }
-withRule asked (OfPairs Order) = record { «single_pair» = asked .«single_pair»; placement = true; weights = asked .weights }
-withRule asked (OfTrucks Unbraced) = record { «single_pair» = asked .«single_pair»; placement = true; weights = asked .weights }
-withRule asked (OfTrucks Overload) = record { «single_pair» = asked .«single_pair»; placement = asked .placement; weights = true }
-withRule asked (OfTrucks Middle) = record { «single_pair» = asked .«single_pair»; placement = asked .placement; weights = true }
-withRule asked (OfTrucks Rear) = record { «single_pair» = asked .«single_pair»; placement = asked .placement; weights = true }
+withRule asked (OfPairs rule) = withPairRule asked rule
+withRule asked (OfTrucks rule) = withTruckRule asked rule
 
 -- every rule below a rank is on single stacks or is asked
 pub record AskedBelow (rank : ℕ) (asked : Asked) : Type 0 where
@@ -90,7 +107,6 @@ noFindings = record {
   «single_pair» = true;
   placement = record { apart = true; «in_order» = true; unbraced = Nothing };
   weights = record { overload = Nothing; middle = Nothing; rear = Nothing };
-  used = record { count = 0; cost = 0 };
 }
 
 -- the placement rules on two parts of a plan that share no used truck
@@ -109,14 +125,19 @@ joinedWeights a b = record {
   rear = lowerFound (a .rear) (b .rear);
 }
 
--- all rules; the used trucks are counted elsewhere
+-- and all of them
 abbrev pub joined : Findings → Findings → Findings
 joined a b = record {
   «single_pair» = a .«single_pair» && b .«single_pair»;
   placement = joinedPlacement (a .placement) (b .placement);
   weights = joinedWeights (a .weights) (b .weights);
-  used = b .used;
 }
+
+-- the lowest places of the weight rules
+pub record WeightsOf (i : Instance) (p : List Stack) (w : WeightPlaces) : Type 0 where
+  pub overload : w .overload ≡ lowestIn (truckPlaces withinLoadLimit i p)
+  pub middle : w .middle ≡ lowestIn (departurePlaces middleAxleHolds i p)
+  pub rear : w .rear ≡ lowestIn (departurePlaces rearAxleHolds i p)
 
 -- the answers on all rules that are asked
 pub record TellsAsked (asked : Asked) (i : Instance) (p : List Stack) (f : Findings) : Type 0 where

@@ -1,19 +1,23 @@
 // The verdict on a plan that was read: the first broken rule of the verdict table with its lowest place, or the cost and the number of used
 // trucks. Rule 9 is asked first; the others are the loading rules, whose order is told by their ranks.
 ghost use mathlib.Core.Path.{_≡_};
-ghost use mathlib.Core.Bool.{_&&_};
-ghost use Prim.Native.Nat.{_*_, _≤_, _<_};
+ghost use mathlib.Core.Logic.{_↔_};
+ghost use mathlib.Core.Bool.{true};
+ghost use mathlib.Core.List.{[]};
+ghost use Prim.Native.Nat.{_+_, _-_, _*_, _≤_, _<_};
 ghost use lib.ListN.{length};
-ghost use Rattle.meaning.specs.Measures.{usedTrucks};
-ghost use Rattle.meaning.specs.Rules.{loadingRules};
+ghost use Rattle.meaning.specs.Measures.{usedBy, usedTrucks};
+ghost use Rattle.meaning.specs.Rules.{loadingRules, pairPlaces, singlePair};
 ghost use Rattle.meaning.specs.Table.{instanceIn, stacksIn};
-ghost use Rattle.meaning.specs.Verdict.{refusal, acceptance, firstBroken, cost, verdictOn};
-ghost use Rattle.table.specs.Filled.{Filled};
+ghost use Rattle.meaning.specs.Verdict.{refusal, acceptance, firstBroken, transportCost, cost, verdictOn};
 ghost use Rattle.search.specs.Lowest.{lowestIn};
-ghost use Rattle.rules.specs.Order.{rulePlaces, ruleAt};
-ghost use Rattle.visits.specs.Visits.{block, HoldsRows, OneTruck};
-ghost use Rattle.judging.specs.Judging.{Tells, PlacementOf, WeightsOf, FindingsOf, UsedTrucksOf, withRule, AskedBelow};
-ghost use Rattle.judging.specs.Judging.{joinedPlacement, joinedWeights, truckFound, pairKept, keptBy, placeIn, FirstRank};
+ghost use Rattle.rules.specs.LoadingRules.{rulePlaces, ruleCount};
+ghost use Rattle.rules.specs.declared.Rule.the-variants.{OfPairs};
+ghost use Rattle.table.specs.Filled.{Filled};
+ghost use Rattle.visits.specs.Visits.{visitAt, block, HoldsRows, OneTruck};
+ghost use Rattle.placement.specs.Placed.{TruckRows, PlacedRows};
+ghost use Rattle.judging.specs.Judging.{withPlacement, withWeights, withPairRule, withTruckRule, withRule, AskedBelow, joinedPlacement, joinedWeights, WeightsOf, TellsAsked, CountsTrucks};
+ghost use Rattle.judging.specs.Judging.{pairKept, truckFound, keptBy, FirstRank, placeIn};
 use axles::WeightPlaces;
 use axles::truck_weights;
 use costs::plan_cost;
@@ -23,7 +27,7 @@ use meaning::Limits;
 use meaning::Place;
 use pairrules::first_pair;
 use pairrules::keeps_single_pair;
-use pairrules::order_by_number;
+use pairrules::order_by;
 use placement::Placement;
 use placement::truck_placement;
 use rules::PairRule;
@@ -53,36 +57,63 @@ struct Asked {
     weights: bool, // 26 to 28
 }
 
-// The kinds asked, with that of one rule more.
+// What is asked, and the placement rules besides.
+fn with_placement(asked: Asked) -> Asked
+    ensures { λ r. ⌜ r ≡ withPlacement asked ⌝ }
+{
+    Asked {
+        single_pair: asked.single_pair,
+        placement: true,
+        weights: asked.weights,
+    }
+}
+
+// What is asked, and the weight rules besides.
+fn with_weights(asked: Asked) -> Asked
+    ensures { λ r. ⌜ r ≡ withWeights asked ⌝ }
+{
+    Asked {
+        single_pair: asked.single_pair,
+        placement: asked.placement,
+        weights: true,
+    }
+}
+
+// What is asked, and the kind of one rule on pairs besides.
+fn with_pair_rule(asked: Asked, rule: PairRule) -> Asked
+    ensures { λ r. ⌜ r ≡ withPairRule asked rule ⌝ }
+{
+    match rule {
+        PairRule::SecondPair => Asked {
+            single_pair: true,
+            placement: asked.placement,
+            weights: asked.weights,
+        },
+        PairRule::Overlap => with_placement(asked),
+        PairRule::Order => with_placement(asked),
+    }
+}
+
+// What is asked, and the kind of one rule on all stacks of a used truck besides.
+fn with_truck_rule(asked: Asked, rule: TruckRule) -> Asked
+    ensures { λ r. ⌜ r ≡ withTruckRule asked rule ⌝ }
+{
+    match rule {
+        TruckRule::Unbraced => with_placement(asked),
+        TruckRule::Overload => with_weights(asked),
+        TruckRule::Middle => with_weights(asked),
+        TruckRule::Rear => with_weights(asked),
+    }
+}
+
+// What is asked, and the kind of one rule besides. A rule on single stacks is not asked of the used trucks.
 fn with_rule(asked: Asked, rule: Rule) -> Asked
     ensures { λ r. ⌜ r ≡ withRule asked rule ⌝ }
 {
     match rule {
         Rule::OfStacks(_) => asked,
-        Rule::OfPairs(pair) => match pair {
-            PairRule::SecondPair => Asked {
-                single_pair: true,
-                placement: asked.placement,
-                weights: asked.weights,
-            },
-            _ => Asked {
-                single_pair: asked.single_pair,
-                placement: true,
-                weights: asked.weights,
-            },
-        },
-        Rule::OfTrucks(each) => match each {
-            TruckRule::Unbraced => Asked {
-                single_pair: asked.single_pair,
-                placement: true,
-                weights: asked.weights,
-            },
-            _ => Asked {
-                single_pair: asked.single_pair,
-                placement: asked.placement,
-                weights: true,
-            },
-        },
+        Rule::OfPairs(pair) => with_pair_rule(asked, pair),
+        Rule::OfTrucks(each) => with_truck_rule(asked, each),
     }
 }
 
@@ -112,11 +143,16 @@ struct UsedTrucks {
     cost: u64,
 }
 
-// What the used trucks keep and break, of the kinds that were asked; how many they are and what they cost.
+// What the used trucks keep and break, of the kinds that were asked.
 struct Findings {
     single_pair: bool, // 17 is kept
     placement: Placement, // 23 and 25 are kept, and where 24 is broken
     weights: WeightPlaces, // where 26 to 28 are broken
+}
+
+// All that a walk over the used trucks tells.
+struct TrucksAsked {
+    found: Findings,
     used: UsedTrucks,
 }
 
@@ -183,8 +219,8 @@ fn asked_placement(
 // The weight rules on one used truck, where they are asked.
 fn asked_weights(asked: bool, t: &[u32], limits: Limits, rows: &[u32], on: Block) -> WeightPlaces
     requires { ⌜ HoldsRows limits (now t) (now rows) × OneTruck (stacksIn limits (now t)) (on .start) (on .end) ⌝ }
-    ensures { λ r. ⌜ (asked ≡ true → (rule : WeightRule) → weightFound rule r
-        ≡ lowestIn (weightRulePlaces rule (instanceIn limits (now (t .entry))) (block (stacksIn limits (now (t .entry))) (on .start) (on .end)))) ⌝ }
+    ensures { λ r. ⌜ (asked ≡ true → WeightsOf (instanceIn limits (now (t .entry)))
+        (block (stacksIn limits (now (t .entry))) (on .start) (on .end)) r) ⌝ }
 {
     if asked {
         return truck_weights(t, limits, rows, on);
@@ -198,7 +234,7 @@ fn asked_weights(asked: bool, t: &[u32], limits: Limits, rows: &[u32], on: Block
 
 // The used trucks with one more, whose stacks begin at place `start`.
 fn with_truck(used: UsedTrucks, t: &[u32], limits: Limits, rows: &[u32], start: usize) -> UsedTrucks
-    requires { ⌜ HoldsRows limits (now t) (now rows) × (start < length (stacksIn limits (now t))) × (used .count ≤ 16777216)
+    requires { ⌜ HoldsRows limits (now t) (now rows) × (start < length (stacksIn limits (now t))) × (used .count ≤ 2097152)
         × (used .cost ≤ 4194304000000000) ⌝ }
     ensures { λ r. ⌜ (r .count ≡ used .count + 1) × (r .cost ≡ transportCost (instanceIn limits (now (t .entry)))
         (usedBy (visitAt (stacksIn limits (now (t .entry))) start)) + used .cost) × (r .cost ≤ used .cost + 2000000000) ⌝ }
@@ -219,12 +255,12 @@ fn ask_trucks(
     rows: &[u32],
     keys: &mut [u64],
     along: &mut [u32],
-) -> Findings
+) -> TrucksAsked
     requires { ⌜ HoldsRows limits (now t) (now rows) × (length (stacksIn limits (now t)) ≤ length (now keys))
         × (length (stacksIn limits (now t)) ≤ length (now along)) ⌝ }
-    ensures tells { λ r. ⌜ TellsAsked asked (instanceIn limits (now (t .entry))) (stacksIn limits (now (t .entry))) r
+    ensures told { λ r. ⌜ TellsAsked asked (instanceIn limits (now (t .entry))) (stacksIn limits (now (t .entry))) (r .found)
         × CountsTrucks (instanceIn limits (now (t .entry))) (stacksIn limits (now (t .entry))) (r .used .count) (r .used .cost) ⌝ }
-    ensures kept { λ _. ⌜ (length (now (keys .exit)) ≡ length (now (keys .entry))) × (length (now (along .exit)) ≡ length (now (along .entry))) ⌝ }
+    ensures lengths { λ _. ⌜ (length (now (keys .exit)) ≡ length (now (keys .entry))) × (length (now (along .exit)) ≡ length (now (along .entry))) ⌝ }
 {
     let mut single_pair = true;
     let mut placement = Placement {
@@ -251,12 +287,12 @@ fn ask_trucks(
         used = with_truck(used, t, limits, rows, start);
         end = start;
     }
-    Findings {
+    let found = Findings {
         single_pair,
         placement,
         weights,
-        used,
-    }
+    };
+    TrucksAsked { found, used }
 }
 
 // ---- the verdict
@@ -326,7 +362,12 @@ fn lowest_pair(
         × (length (stacksIn limits (now t)) ≤ length (now order)) ⌝ }
     ensures { λ r. ⌜ r ≡ lowestIn (rulePlaces (OfPairs rule) (instanceIn limits (now (t .entry))) (stacksIn limits (now (t .entry)))) ⌝ }
 {
-    order_by_number(rows, stack_count(t, limits), keys, order);
+    let count = stack_count(t, limits);
+    let all = Block {
+        start: 0,
+        end: count,
+    };
+    order_by(rows, all, row::NUMBER, keys, order);
     first_pair(rule, t, limits, rows, order)
 }
 
@@ -390,10 +431,11 @@ fn judge_loading(
         (length (usedTrucks (stacksIn limits (now (t .entry)))))) ⌝ }
 {
     let first = first_on_stacks(t, limits, rows);
-    let found = ask_trucks(kinds_below(first.rank), t, limits, rows, keys, order);
+    let trucks = ask_trucks(kinds_below(first.rank), t, limits, rows, keys, order);
+    let found = trucks.found;
     let rank = first_rank(found, first.rank);
     if rank == RULES {
-        let used = found.used;
+        let used = trucks.used;
         return accept(t, limits, used);
     }
     let place = first.place;

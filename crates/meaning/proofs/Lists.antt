@@ -156,7 +156,7 @@ module _ {A : Type 0} where
     down-end {j} h k = let e : j ≡ 0 = omega arith in h .is ∙ ap (λ n. value (drop n l)) e
 
   -- ---- no element
-  append-none : (l l′ : List A) → (l ++ l′ ≡ []) ↔ ((l ≡ []) × (l′ ≡ []))
+  pub append-none : (l l′ : List A) → (l ++ l′ ≡ []) ↔ ((l ≡ []) × (l′ ≡ []))
   append-none [] l′ = ((λ e. (refl, e)), (λ h. h .1))
   append-none (a ∷ l) l′ = ((λ e. absurd (no-cons a (l ++ l′) e)), (λ h. absurd (no-cons a l (h .0))))
 
