@@ -67,6 +67,7 @@ module _ (rank : ℕ) (inside : rank < ruleCount) where
   row-verdict = sym (map-at (λ (r : meant.Rule). r .verdict) loading rank noRule 0 within) ∙ ap (λ (l : List ℕ). getD l rank 0) verdicts-named
 
   row-places : row .places ≡ rulePlaces (ruleAt rank)
+  unfolding ruleAt
   row-places =
       let none : Instance → List Stack → List Place = λ i p. [] in
       sym (map-at (λ (r : meant.Rule). r .places) loading rank noRule none within)
