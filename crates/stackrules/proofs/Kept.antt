@@ -1,5 +1,5 @@
 -- All rules on an item, and all rules on a stack, told by tests that are joined.
-use mathlib.Core.Path.{_≡_, sym, _∙_}
+use mathlib.Core.Path.{_≡_, refl, sym, _∙_}
 use mathlib.Core.Logic.{_↔_}
 use mathlib.Core.Bool.{Bool, true, _&&_}
 use mathlib.Core.List.{List, [], _∷_}
@@ -52,6 +52,11 @@ module _ (i : Instance) (s : Stack) (a : Item) where
       go Dock h = h .0 .0 .1
       go Mixed h = h .0 .1
       go Turned h = h .1
+
+  pub every-tested : {p r u d k m t : Bool} → p ≡ itemTest Plant i s a → r ≡ itemTest Product i s a → u ≡ itemTest Supplier i s a → d ≡ itemTest Day i s a
+      → k ≡ itemTest Dock i s a → m ≡ itemTest Mixed i s a → t ≡ itemTest Turned i s a
+      → ((((((p && r) && u) && d) && k) && m) && t) ≡ everyItemTest i s a
+  every-tested ep er eu ed ek em et = rw (ep, er, eu, ed, ek, em, et) refl
 
 -- ---- the items of some stacks
 module _ (i : Instance) (p : List Stack) where

@@ -27,11 +27,11 @@ use Rattle.visits.proofs.Reading.{word-is, index-within, truck-is, footprint-is
 use Rattle.stackrules.proofs.Docks.{docks-tested}
 
 -- a test of the code, the stack's number and an amount give the place of a rule on that stack
-one-stack : (kept : Instance → List Stack → Stack → Bool) (amount : Instance → Stack → ℕ) (i : Instance) (s : Stack) {test : Bool} {n a : ℕ} {r : Found}
+one-stack : (kept : Instance → List Stack → Stack → Bool) (amount : Instance → Stack → ℕ) (i : Instance) (s : Stack) (test : Bool) {n a : ℕ} {r : Found}
     → r ≡ lowestIn (onlyIf (not test) (place n a 0)) → n ≡ number s → a ≡ amount i s → test ≡ kept i (s ∷ []) s
     → r ≡ lowestIn (stackPlaces kept amount i (s ∷ []))
 unfolding stackPlaces flatMap
-one-stack kept amount i s er en ea et =
+one-stack kept amount i s test er en ea et =
     er ∙ ap lowestIn (rw (et, en, ea) (sym (append-nil (onlyIf (not (kept i (s ∷ []) s)) (place (number s) (amount i s) 0)))))
 
 module _ {m : Limits} {t rows : List ℕ} (h : HoldsRows m t rows) {k : ℕ} (known : k < length (stacksIn m t)) where
@@ -68,7 +68,7 @@ module _ {m : Limits} {t rows : List ℕ} (h : HoldsRows m t rows) {k : ℕ} (kn
     docks-is {count} {truck} {flag} {low} {high} ec et ef el eh er =
         let s = visitAt p k in
         let docks = ec ∙ word-is h k known 9 (omega arith) in
-        one-stack plantDocksAllowed plantDockCount i s er numbered docks
+        one-stack plantDocksAllowed plantDockCount i s _ er numbered docks
         (docks-tested i (s ∷ []) s count flag low high (orders-bound (h .filled) (getD (visitOrder p) k 0) (order-within p k known)) docks
         (ef ∙ rw (truck-same et) refl) (el ∙ word-is h k known 14 (omega arith)) (eh ∙ word-is h k known 15 (omega arith)))
 
@@ -76,20 +76,21 @@ module _ {m : Limits} {t rows : List ℕ} (h : HoldsRows m t rows) {k : ℕ} (kn
         → truck ≡ rowWord rows k 2 → limit ≡ TMM (truckNumbered i truck) → r ≡ lowestIn (onlyIf (not (leb above limit)) (place first above 0))
         → r ≡ lowestIn (stackPlaces topWeightWithin weightAbove i (visitAt p k ∷ []))
     unfolding weight
-    top-heavy-is es ea et el er =
-        one-stack topWeightWithin weightAbove i (visitAt p k) er numbered (ea ∙ rw (stack-same es) refl) (rw (ea, el, stack-same es, truck-same et) refl)
+    top-heavy-is {above = above} {limit = limit} es ea et el er =
+        one-stack topWeightWithin weightAbove i (visitAt p k) (leb above limit) er numbered (ea ∙ rw (stack-same es) refl)
+        (rw (ea, el, stack-same es, truck-same et) refl)
 
     pub too-many-is : {r : Found} {s count most : ℕ} → s ≡ rowWord rows k 0 → count ≡ length (stackAt p s .load) → most ≡ ISM (bottom i (stackAt p s))
         → r ≡ lowestIn (onlyIf (not (leb count most)) (place first count 0)) → r ≡ lowestIn (stackPlaces stackabilityKept itemCount i (visitAt p k ∷ []))
-    too-many-is es ec em er =
-        one-stack stackabilityKept itemCount i (visitAt p k) er numbered (ec ∙ rw (stack-same es) refl) (rw (ec, em, stack-same es) refl)
+    too-many-is {count = count} {most = most} es ec em er =
+        one-stack stackabilityKept itemCount i (visitAt p k) (leb count most) er numbered (ec ∙ rw (stack-same es) refl) (rw (ec, em, stack-same es) refl)
 
     pub dense-is : {r : Found} {s heavy truck limit long wide : ℕ} {kept : Bool} → s ≡ rowWord rows k 0 → heavy ≡ rowWord rows k 8 → truck ≡ rowWord rows k 2
         → limit ≡ TEM (truckNumbered i truck) → long ≡ sl i (stackAt p s) → wide ≡ sw i (stackAt p s) → kept ≡ leb (heavy * 1000000) (limit * long * wide)
         → r ≡ lowestIn (onlyIf (not kept) (place first heavy 0)) → r ≡ lowestIn (stackPlaces densityWithin sm i (visitAt p k ∷ []))
     dense-is {heavy = heavy} es eh et el elong ew ek er =
         let sum : heavy ≡ sm i (visitAt p k) = eh ∙ word-is h k known 8 (omega arith) in
-        one-stack densityWithin sm i (visitAt p k) er numbered sum (ek ∙ rw (sum, el, elong, ew, stack-same es, truck-same et) refl)
+        one-stack densityWithin sm i (visitAt p k) _ er numbered sum (ek ∙ rw (sum, el, elong, ew, stack-same es, truck-same et) refl)
 
     pub outside-is : {r : Found} {s truck long wide high side : ℕ} {ground : Footprint} {size : Size} → s ≡ rowWord rows k 0 → truck ≡ rowWord rows k 2
         → ground ≡ footprintAt rows k → size ≡ sizeOf i (stackAt p s) → long ≡ TL (truckNumbered i truck) → wide ≡ TW (truckNumbered i truck)
@@ -97,7 +98,7 @@ module _ {m : Limits} {t rows : List ℕ} (h : HoldsRows m t rows) {k : ℕ} (kn
         → r ≡ lowestIn (onlyIf (not ((leb (ground .xe) long && leb (ground .ye) wide) && leb (size .height) high)) (place first side 0))
         → r ≡ lowestIn (stackPlaces inside exceededSide i (visitAt p k ∷ []))
     unfolding sizeOf
-    outside-is {ground = ground} es et eg eb el ew eh ed er =
+    outside-is {long = long} {wide = wide} {high = high} {ground = ground} {size = size} es et eg eb el ew eh ed er =
         let e = eg ∙ footprint-is h k known in
-        one-stack inside exceededSide i (visitAt p k) er numbered (ed ∙ rw (e, el, ew, truck-same et) refl)
-        (rw (e, eb, el, ew, eh, stack-same es, truck-same et) refl)
+        one-stack inside exceededSide i (visitAt p k) ((leb (ground .xe) long && leb (ground .ye) wide) && leb (size .height) high) er numbered
+        (ed ∙ rw (e, el, ew, truck-same et) refl) (rw (e, eb, el, ew, eh, stack-same es, truck-same et) refl)

@@ -2,9 +2,10 @@
 use mathlib.Core.Path.{_≡_}
 use mathlib.Core.Bool.{Bool, true, cond, _&&_}
 use mathlib.Core.List.{List, []}
-use Prim.Native.Nat.{ℕ, _-_, _≤_, _<_}
-use lib.Dec.{ltb}
+use Prim.Native.Nat.{ℕ, _+_, _-_, _≤_, _<_}
+use lib.Dec.{ltb, eqb}
 use lib.ListN.{length, getD}
+use Rattle.meaning.specs.Lists.{filter}
 use Rattle.meaning.specs.Places.{place}
 use Rattle.meaning.specs.Model.{Instance, Stack, Item}
 use Rattle.meaning.specs.Rules.{plantMatches, productCarried, supplierVisited, arrivesInWindow, docksServed, stackable, orientationKept, timesLoaded}
@@ -54,6 +55,15 @@ pub record FirstOnStacks (i : Instance) (p : List Stack) (r : Breach) : Type 0 w
   pub none : r .rank ≡ ruleCount → r .place ≡ place 0 0 0
 
 -- ---- counting
+-- the words have a count for each entry of a load, with room for all entries besides what was counted before
+pub record Countable (load times : List ℕ) : Type 0 where
+  pub entries : (j : ℕ) → j < length load → (1 ≤ getD load j 0) × (getD load j 0 ≤ length times)
+  pub few : (j : ℕ) → j < length load → getD times (getD load j 0 - 1) 0 + length load ≤ 4294967295
+
+-- of each item the words count what they did before, and how often the load has it
+pub record Counted (load before after : List ℕ) : Type 0 where
+  pub counts : (n : ℕ) → 1 ≤ n → n ≤ length before → getD after (n - 1) 0 ≡ length (filter (eqb n) load) + getD before (n - 1) 0
+
 -- the words hold how often these stacks load each of the first `items` items
 pub record Tally (items : ℕ) (p : List Stack) (times : List ℕ) : Type 0 where
   pub room : items ≤ length times

@@ -5,7 +5,7 @@ ghost use mathlib.Core.Bool.{true, not, cond};
 ghost use mathlib.Core.List.{[], _∷_};
 ghost use Prim.Native.Nat.{_+_, _*_, _≤_, _<_};
 ghost use lib.Dec.{leb, eqb};
-ghost use lib.ListN.{length, getD, drop};
+ghost use lib.ListN.{length, getD};
 ghost use Rattle.meaning.specs.Model.{item};
 ghost use Rattle.meaning.specs.Measures.{bottom};
 ghost use Rattle.meaning.specs.Table.{instanceIn, stacksIn};
@@ -15,7 +15,8 @@ ghost use Rattle.table.specs.Filled.{Filled, stackAt, ItemNumber};
 ghost use Rattle.search.specs.Lowest.{lowestIn};
 ghost use Rattle.rules.specs.LoadingRules.{itemTest, stackRulePlaces, ruleCount, ruleAt};
 ghost use Rattle.visits.specs.Visits.{visitAt, HoldsRows};
-ghost use Rattle.stackrules.specs.StackRules.{everyItemTest, itemAsked, StacksKept, foundOnStacks, noBreach, soonerOf, FirstOnStacks, Tally};
+ghost use Rattle.stackrules.specs.StackRules.{everyItemTest, itemAsked, StacksKept, foundOnStacks, noBreach, soonerOf, FirstOnStacks};
+ghost use Rattle.stackrules.specs.StackRules.{Countable, Counted, Tally};
 use meaning::Limits;
 use meaning::Place;
 use rules::ItemRule;
@@ -83,14 +84,11 @@ fn count_index(n: u32) -> usize
     (n as usize) - 1
 }
 
-// Counts the items of one stack, beside those of the stacks behind it.
-fn count_load(t: &[u32], limits: Limits, s: usize, times: &mut [u32])
-    requires { ⌜ Filled limits (now t) × (s < length (stacksIn limits (now t)))
-        × Tally (length (instanceIn limits (now t) .items)) (drop (s + 1) (stacksIn limits (now t))) (now times) ⌝ }
-    ensures { λ _. ⌜ Tally (length (instanceIn limits (now (t .entry)) .items)) (drop s (stacksIn limits (now (t .entry))))
-        (now (times .exit)) ⌝ }
+// Counts the items of a load, besides what was counted before.
+fn count_load(items: &[u32], times: &mut [u32])
+    requires { ⌜ Countable (now items) (now times) ⌝ }
+    ensures { λ _. ⌜ Counted (now (items .entry)) (now (times .entry)) (now (times .exit)) ⌝ }
 {
-    let items = load(t, limits, s);
     let mut j = items.len();
     while 0 < j {
         j -= 1;
@@ -108,7 +106,7 @@ fn count_items(t: &[u32], limits: Limits, times: &mut [u32])
     let mut s = stack_count(t, limits);
     while 0 < s {
         s -= 1;
-        count_load(t, limits, s, times);
+        count_load(load(t, limits, s), times);
     }
 }
 

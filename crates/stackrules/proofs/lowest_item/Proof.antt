@@ -1,67 +1,55 @@
+-- `stackrules::lowest_item`: from the top item down the lowest place so far is kept.
+use mathlib.Core.Path.{refl}
+use Prim.Native.Nat.{_-_}
+use native.Mathlib.Omega.{arith}
 use borrow.Author.Needs.{needs}
+use Rattle.meaning.specs.Table.{instanceIn, stacksIn}
+use Rattle.table.specs.Filled.{stackAt}
+use Rattle.search.proofs.Lowest.{LowestFrom, from-start, from-more, from-end}
+use Rattle.stackrules.specs.StackRules.{itemAsked}
+use Rattle.stackrules.proofs.Items.{itemPlace, item-place, item-places}
 use Rattle.stackrules.proofs.lowest_item.Statement.{statement}
 use Rattle.stackrules.proofs.lowest_item.Tie as tie
-use Rattle.stackrules.proofs.lowest_item.Reads as reads
-use Rattle.stackrules.proofs.lowest_item.Lts as lts
-use Rattle.search.proofs.lower_of.Reads as lower-of-reads
-use Rattle.search.proofs.place_if.Reads as place-if-reads
-use Rattle.stackrules.proofs.item_passes.Reads as item-passes-reads
-use Rattle.table.proofs.load.Reads as load-reads
-use Rattle.table.proofs.stack_field.Reads as stack-field-reads
 
 abbrev Inv-loop : tie.InvT-loop
-Inv-loop test t limits s number items found₀ j₀ found j = ?
+Inv-loop test t limits s number items found₀ j₀ found j = LowestFrom (itemPlace (itemAsked test) (instanceIn limits t) (stackAt (stacksIn limits t) s)) items j found
 
 abbrev μ-loop : tie.MeasureT-loop
-μ-loop test t limits s number items found₀ j₀ found j = ?
+μ-loop test t limits s number items found₀ j₀ found j = j
 
--- src/lib.rt:266:9
-stack-field-requires : tie.Need-stack-field-requires Inv-loop μ-loop
-stack-field-requires c κs = ?
+inside : tie.Need-sub-j Inv-loop μ-loop
+inside c = search needs
 
--- src/lib.rt:267:9
-load-requires : tie.Need-load-requires Inv-loop μ-loop
-load-requires c κs = ?
+read : tie.Need-shared-slice-read-n Inv-loop μ-loop
+read c = omega (arith, c .before .before .loop .inv .down .upto)
 
--- src/lib.rt:270:5
-loop-holds : tie.Need-loop-holds Inv-loop μ-loop
-loop-holds c = ?
-
--- src/lib.rt:271:9
-sub-j : tie.Need-sub-j Inv-loop μ-loop
-sub-j c = search needs
-
--- src/lib.rt:272:17
-mul-n : tie.Need-mul-n Inv-loop μ-loop
-mul-n c = search needs
-
--- src/lib.rt:272:17
-shared-slice-read-n : tie.Need-shared-slice-read-n Inv-loop μ-loop
-shared-slice-read-n c = search needs
-
--- src/lib.rt:273:13
 item-passes-requires : tie.Need-item-passes-requires Inv-loop μ-loop
-item-passes-requires c κs = ?
+item-passes-requires c κs =
+    let loop = c .before .before in
+    let items = loop .before .load in
+    let start = loop .before .before .before .before in
+    (start .pre .0, start .pre .1, items .ensures .1 .entries (loop .loop .j - 1) (omega (arith, loop .loop .inv .down .upto)))
 
--- src/lib.rt:274:26
-place-if-requires : tie.Need-place-if-requires Inv-loop μ-loop
-place-if-requires c κs = ?
-
--- src/lib.rt:274:9
-lower-of-requires : tie.Need-lower-of-requires Inv-loop μ-loop
-lower-of-requires c κs = ?
-
--- src/lib.rt:270:5
-loop-less : tie.Need-loop-less Inv-loop μ-loop
-loop-less c = search needs
-
--- src/lib.rt:270:5
 loop-again : tie.Need-loop-again Inv-loop μ-loop
-loop-again c = ?
+loop-again c =
+    let place = c .before in
+    let passes = place .before in
+    let entry = passes .before in
+    let loop = entry .before .before in
+    let number = loop .before .before in
+    let a = number .before .before .args in
+    let i = instanceIn (a .limits) (a .t .now) in
+    let s = stackAt (stacksIn (a .limits) (a .t .now)) (a .s) in
+    let here = item-place (itemAsked (a .test)) i s _ (number .stack-field .ensures .0) (passes .item-passes .ensures) (place .place-if .ensures) in
+    from-more 0 (loop .loop .inv) (entry .before .loop-test .taken) refl here (c .lower-of .ensures)
 
--- src/lib.rt:261:1
 returns : tie.Need-returns Inv-loop μ-loop
-returns c = ?
+returns c =
+    let loop = c .before in
+    let a = loop .before .before .before .before .args in
+    let i = instanceIn (a .limits) (a .t .now) in
+    let s = stackAt (stacksIn (a .limits) (a .t .now)) (a .s) in
+    item-places (itemAsked (a .test)) i s (rw (← loop .before .load .ensures .0) (from-end (loop .loop .inv) (c .loop-test .left)))
 
 pub lowest-item-spec : {M : Type 1} → statement M
 lowest-item-spec =
@@ -69,15 +57,15 @@ lowest-item-spec =
     (tie.spec
     Inv-loop
     μ-loop
-    stack-field-requires
-    load-requires
-    loop-holds
-    sub-j
-    mul-n
-    shared-slice-read-n
+    (λ c κs. search needs)
+    (λ c κs. search needs)
+    (λ c. from-start refl)
+    inside
+    (λ c. search needs)
+    read
     item-passes-requires
-    place-if-requires
-    lower-of-requires
-    loop-less
+    (λ c κs. search needs)
+    (λ c κs. search needs)
+    (λ c. search needs)
     loop-again
     returns)
