@@ -1,57 +1,36 @@
 -- What the views of a stack are made of, read by read.
-use mathlib.Core.Path.{_≡_, refl, sym, ap, _∙_}
+use mathlib.Core.Path.{_≡_, refl, sym, _∙_}
 use mathlib.Core.Bool.{cond}
 use mathlib.Core.List.{List, [], _∷_}
-use Prim.Native.Nat.{ℕ, _-_, _≤_, _<_}
+use Prim.Native.Nat.{ℕ, _≤_, _<_}
 use native.Mathlib.Omega.{arith}
 use borrow.Author.Tests.{lt-ltb, le-ltb}
 use lib.Dec.{ltb}
 use lib.ListN.{length, getD, drop}
 use Rattle.meaning.specs.declared.Limits.{Limits}
 use Rattle.meaning.specs.Lists.{sum, orderIn, orderFrom}
-use Rattle.meaning.specs.Model.{Instance, Truck, Stack, item, truckNumbered, truckOf, truck, IH, nesting, IM, IU, IK}
-use Rattle.meaning.specs.Measures.{bottom, sm, height, plantDocksOf}
+use Rattle.meaning.specs.Model.{Instance, Truck, Stack, item, IH, nesting}
+use Rattle.meaning.specs.Measures.{sm, height, plantDocksOf}
 use Rattle.meaning.specs.Rules.{plantDockCount}
 use Rattle.meaning.specs.Table.{instanceIn}
 use Rattle.meaning.proofs.Lists.{in-at}
 use Rattle.meaning.proofs.Fields.{item-within}
 use Rattle.meaning.proofs.Sums.{sum-below, sum-drop}
 use Rattle.meaning.proofs.Orders.{list-at}
-use Rattle.table.specs.Filled.{Filled, LoadInRange, docksAtOrder}
+use Rattle.table.specs.Filled.{Filled, LoadInRange, ItemNumber, docksAtOrder}
 use Rattle.table.proofs.Access.{item-in}
-use Rattle.views.specs.declared.Size.{Size}
 use Rattle.views.specs.declared.OrderRange.{OrderRange}
-use Rattle.views.specs.declared.Rank.{Rank}
-use Rattle.views.specs.Views.{loadOnly, sizeOf, rangeWith, rangeOf, plantDockOrders, rankOf}
+use Rattle.views.specs.Views.{loadOnly, sizeOf, rangeWith}
 
--- ---- fields of a stack's bottom item and of its truck
-module _ (i : Instance) (a : Stack) where
-  pub bottom-is : {n r : ℕ} (f : ℕ) → n ≡ getD (a .load) 0 0 → r ≡ getD (item i n) f 0 → r ≡ getD (bottom i a) f 0
-  bottom-is f en er = er ∙ ap (λ k. getD (item i k) f 0) en
-
-  pub carrier-is : {n r : ℕ} (f : ℕ) → n ≡ truck a → r ≡ getD (truckNumbered i n .fields) f 0 → r ≡ getD (truckOf i a .fields) f 0
-  carrier-is f en er = er ∙ ap (λ k. getD (truckNumbered i k .fields) f 0) en
-
--- ---- weight and height
-module _ (i : Instance) (load : List ℕ) {heights nested : ℕ} (eh : heights ≡ sum (λ n. IH (item i n)) load)
-    (en : nested ≡ sum (λ n. nesting (item i n)) (drop 1 load)) where
-  -- no item nests deeper than it is high
-  nested-less : ((j : ℕ) → j < length load → nesting (item i (getD load j 0)) ≤ IH (item i (getD load j 0))) → nested ≤ heights
-  nested-less h =
-      let high : ℕ → ℕ = λ n. IH (item i n) in
-      let deep : ℕ → ℕ = λ n. nesting (item i n) in
-      let each = sum-below deep high load (λ n k. let w = in-at 0 load n k in rw (w .2) (h (w .0) (w .1))) in
-      omega (arith, eh, en, sum-drop deep 1 load, each)
-
-  pub size-is : {total : ℕ} → total ≡ sum (λ n. IM (item i n)) load → _≡_ {A = Size} (record { weight = total; height = heights - nested }) (sizeOf i load)
-  unfolding sizeOf
-  size-is ew = rw (ew, eh, en) refl
-
-pub load-nested : {m : Limits} {t load : List ℕ} → Filled m t → LoadInRange (instanceIn m t) load → {heights nested : ℕ}
+-- ---- heights: no item nests deeper than it is high
+pub nested-less : {m : Limits} {t load : List ℕ} → Filled m t → LoadInRange (instanceIn m t) load → {heights nested : ℕ}
     → heights ≡ sum (λ n. IH (item (instanceIn m t) n)) load → nested ≡ sum (λ n. nesting (item (instanceIn m t) n)) (drop 1 load) → nested ≤ heights
-load-nested {m} {t} {load} h l eh en =
-    nested-less (instanceIn m t) load eh en
-    (λ j k. omega (arith, item-within (item (instanceIn m t) (getD load j 0)) (item-in h _ (l .entries j k)) 3 (omega arith)))
+nested-less {m} {t} {load} h l eh en =
+    let high : ℕ → ℕ = λ n. IH (item (instanceIn m t) n) in
+    let deep : ℕ → ℕ = λ n. nesting (item (instanceIn m t) n) in
+    let one : (n : ℕ) → ItemNumber (instanceIn m t) n → deep n ≤ high n = λ n k. omega (arith, item-within (item (instanceIn m t) n) (item-in h n k) 3 (omega arith)) in
+    let each = sum-below deep high load (λ n k. let w = in-at 0 load n k in rw (w .2) (one _ (l .entries (w .0) (w .1)))) in
+    omega (arith, eh, en, sum-drop deep 1 load, each)
 
 -- ---- what a stack's load tells is what the model tells of the stack
 pub stack-size : (i : Instance) (s : Stack) → sizeOf i (s .load) ≡ record { weight = sm i s; height = height i s }
@@ -75,21 +54,6 @@ dock-unlisted docks dock e = rw e refl
 
 pub docks-listed : (a : Truck) {place : ℕ} → 0 < place → {list : List ℕ} → list ≡ docksAtOrder a place → list ≡ getD ([] ∷ a .docks) place []
 docks-listed a {place} h e = e ∙ sym (list-at (a .docks) place h)
-
--- ---- what the loading order compares
-pub rank-is : (i : Instance) (truck : ℕ) (load : List ℕ) {supplier dock order dockOrder : ℕ} {range : OrderRange}
-    → supplier ≡ IU (item i (getD load 0 0)) → dock ≡ IK (item i (getD load 0 0)) → order ≡ orderIn (truckNumbered i truck .suppliers) supplier
-    → dockOrder ≡ orderIn (getD ([] ∷ truckNumbered i truck .docks) order []) dock → range ≡ rangeOf (plantDockOrders i truck load)
-    → _≡_ {A = Rank} (record {
-      supplier = supplier;
-      dock = dock;
-      «supplier_order» = order;
-      «dock_order» = dockOrder;
-      lowest = range .lowest;
-      highest = range .highest;
-    }) (rankOf i truck load)
-unfolding rankOf
-rank-is i truck load es ed eo ek ep = rw (ek, eo, ep, es, ed) refl
 
 -- ---- the range with one loading order more
 module _ (a b v w : ℕ) {r : ℕ} where

@@ -5,7 +5,7 @@ ghost use mathlib.Core.List.{[], _∷_};
 ghost use Prim.Native.Nat.{_*_, _≤_, _<_};
 ghost use lib.ListN.{length, getD, drop};
 ghost use Rattle.meaning.specs.Lists.{sum, listed, orderIn};
-ghost use Rattle.meaning.specs.Model.{item, truckOf, truckNumbered, IG, IU, IK};
+ghost use Rattle.meaning.specs.Model.{item, truckOf, truckNumbered, IL, IW, IG, IU, IK};
 ghost use Rattle.meaning.specs.Measures.{bottom, docksOf};
 ghost use Rattle.meaning.specs.Rules.{plantDockCount};
 ghost use Rattle.meaning.specs.Table.{instanceIn, stacksIn};
@@ -17,14 +17,16 @@ use table::docks;
 use table::fields::IG;
 use table::fields::IH;
 use table::fields::IK;
+use table::fields::IL;
 use table::fields::IM;
 use table::fields::IU;
+use table::fields::IW;
 use table::fields::NESTING;
 use table::fields::ORIENTATION;
 use table::fields::X;
 use table::fields::Y;
 use table::item_field;
-use table::load_entry;
+use table::load;
 use table::order_in;
 use table::plant_docks;
 use table::stack_field;
@@ -78,7 +80,8 @@ pub fn bottom_field(t: &[u32], limits: Limits, s: usize, field: usize) -> u32
     ensures { λ r. ⌜ (r ≡ getD (bottom (instanceIn limits (now (t .entry))) (stackAt (stacksIn limits (now (t .entry))) s)) field 0)
         × (r ≤ itemMost field) ⌝ }
 {
-    item_field(t, limits, load_entry(t, limits, s, 0), field)
+    let items = load(t, limits, s);
+    item_field(t, limits, items[0], field)
 }
 
 // A field of the truck that a stack is on.
@@ -134,6 +137,18 @@ pub fn footprint_from(position: Position, length: u32, width: u32) -> Footprint
         y: position.y,
         ye: position.y + extent.across,
     }
+}
+
+// The ground of a stack, by its position and its load.
+pub fn read_footprint(t: &[u32], limits: Limits, position: Position, load: &[u32]) -> Footprint
+    requires { ⌜ Filled limits (now t) × LoadInRange (instanceIn limits (now t)) (now load) × PositionInRange position ⌝ }
+    ensures { λ r. ⌜ r ≡ footprintFrom position (IL (item (instanceIn limits (now (t .entry))) (getD (now (load .entry)) 0 0)))
+        (IW (item (instanceIn limits (now (t .entry))) (getD (now (load .entry)) 0 0))) ⌝ }
+{
+    let bottom = load[0];
+    let length = item_field(t, limits, bottom, IL);
+    let width = item_field(t, limits, bottom, IW);
+    footprint_from(position, length, width)
 }
 
 // ---- weight and height

@@ -1,7 +1,7 @@
 -- `views::read_rank`: each part by its accessor. A load has an entry.
+use mathlib.Core.Path.{refl}
 use native.Mathlib.Omega.{arith}
-use Rattle.meaning.specs.Table.{instanceIn}
-use Rattle.views.proofs.Stacks.{rank-is}
+use Rattle.views.specs.Views.{rankOf}
 use borrow.Author.Needs.{needs}
 use Rattle.views.proofs.read_rank.Statement.{statement}
 use Rattle.views.proofs.read_rank.Tie as tie
@@ -31,14 +31,19 @@ cast-t13 : tie.Need-cast-t13
 cast-t13 c = search needs
 
 returns : tie.Need-returns
+unfolding rankOf
 returns c =
     let range = c .before in
     let order = range .before in
     let dock = order .before in
-    let supplier = dock .before in
-    let a = supplier .before .before .before .before .args in
-    rank-is (instanceIn (a .limits) (a .t .now)) (a .truck) (a .load .now) (supplier .item-field .ensures .0) (dock .item-field2 .ensures .0)
-    (order .supplier-order .ensures .0) (c .dock-order .ensures .0) (range .plant-dock-range .ensures)
+    rw (
+      c .dock-order .ensures .0,
+      range .plant-dock-range .ensures,
+      order .supplier-order .ensures .0,
+      dock .item-field2 .ensures .0,
+      dock .before .item-field .ensures .0,
+    )
+    refl
 
 pub read-rank-spec : {M : Type 1} → statement M
 read-rank-spec =

@@ -1,6 +1,7 @@
 -- `views::read_size`: the height is a difference of two sums, and no item nests deeper than it is high.
-use Rattle.meaning.specs.Table.{instanceIn}
-use Rattle.views.proofs.Stacks.{load-nested, size-is}
+use mathlib.Core.Path.{refl}
+use Rattle.views.specs.Views.{sizeOf}
+use Rattle.views.proofs.Stacks.{nested-less}
 use borrow.Author.Needs.{needs}
 use Rattle.views.proofs.read_size.Statement.{statement}
 use Rattle.views.proofs.read_size.Tie as tie
@@ -18,14 +19,11 @@ sub-t7 : tie.Need-sub-t7
 sub-t7 c =
     let heights = c .before in
     let s = heights .before .before .before .before in
-    load-nested (s .pre .0) (s .pre .1) (heights .load-sum2 .ensures .0) (c .load-sum3 .ensures .0)
+    nested-less (s .pre .0) (s .pre .1) (heights .load-sum2 .ensures .0) (c .load-sum3 .ensures .0)
 
 returns : tie.Need-returns
-returns c =
-    let heights = c .before in
-    let weight = heights .before in
-    let a = weight .before .before .before .args in
-    size-is (instanceIn (a .limits) (a .t .now)) (a .load .now) (heights .load-sum2 .ensures .0) (c .load-sum3 .ensures .0) (weight .load-sum .ensures .0)
+unfolding sizeOf
+returns c = rw (c .before .before .load-sum .ensures .0, c .before .load-sum2 .ensures .0, c .load-sum3 .ensures .0) refl
 
 pub read-size-spec : {M : Type 1} → statement M
 read-size-spec =
