@@ -13,7 +13,7 @@ use Rattle.meaning.specs.Places.{lowest}
 use Rattle.meaning.specs.Model.{Instance, Stack}
 use Rattle.meaning.specs.Measures.{usedTrucks}
 use Rattle.meaning.specs.Rules as meant
-use Rattle.meaning.specs.Rules.{rules, itemRules, stackRules, placementRules, weightRules, notOnce}
+use Rattle.meaning.specs.Rules.{rules, notOnceRule, loadingRules, itemRules, stackRules, placementRules, weightRules, notOnce}
 use Rattle.meaning.specs.Verdict.{refusal, acceptance, brokenOr, firstBroken, verdictOn, cost}
 use Rattle.meaning.proofs.Lists.{map-at}
 use Rattle.search.specs.Lowest.{foundOf, lowestIn}
@@ -37,19 +37,16 @@ module _ (r : meant.Rule) (rs : List meant.Rule) (i : Instance) (p : List Stack)
   rule-kept e = rw e refl
 
 -- ---- the table's loading rules, and the code's names for them
-abbrev loading : List meant.Rule
-loading = drop 1 rules
-
-verdicts-named : map (λ (r : meant.Rule). r .verdict) loading ≡ verdicts
-unfolding rules itemRules stackRules placementRules weightRules
+verdicts-named : map (λ (r : meant.Rule). r .verdict) loadingRules ≡ verdicts
+unfolding loadingRules itemRules stackRules placementRules weightRules
 verdicts-named = refl
 
-places-named : map (λ (r : meant.Rule). r .places) loading ≡ map (λ verdict. rulePlaces (ruleOf verdict)) verdicts
-unfolding rules itemRules stackRules placementRules weightRules
+places-named : map (λ (r : meant.Rule). r .places) loadingRules ≡ map (λ verdict. rulePlaces (ruleOf verdict)) verdicts
+unfolding loadingRules itemRules stackRules placementRules weightRules
 places-named = refl
 
-loading-length : length loading ≡ ruleCount
-unfolding rules itemRules stackRules placementRules weightRules
+loading-length : length loadingRules ≡ ruleCount
+unfolding loadingRules itemRules stackRules placementRules weightRules
 loading-length = refl
 
 -- stands in for a row that the table does not have
@@ -58,19 +55,19 @@ noRule = record { verdict = 0; places = λ i p. [] }
 
 module _ (rank : ℕ) (inside : rank < ruleCount) where
   abbrev row : meant.Rule
-  row = getD loading rank noRule
+  row = getD loadingRules rank noRule
 
-  within : rank < length loading
+  within : rank < length loadingRules
   within = omega (arith, loading-length)
 
   row-verdict : row .verdict ≡ getD verdicts rank 0
-  row-verdict = sym (map-at (λ (r : meant.Rule). r .verdict) loading rank noRule 0 within) ∙ ap (λ (l : List ℕ). getD l rank 0) verdicts-named
+  row-verdict = sym (map-at (λ (r : meant.Rule). r .verdict) loadingRules rank noRule 0 within) ∙ ap (λ (l : List ℕ). getD l rank 0) verdicts-named
 
   row-places : row .places ≡ rulePlaces (ruleAt rank)
   unfolding ruleAt
   row-places =
       let none : Instance → List Stack → List Place = λ i p. [] in
-      sym (map-at (λ (r : meant.Rule). r .places) loading rank noRule none within)
+      sym (map-at (λ (r : meant.Rule). r .places) loadingRules rank noRule none within)
       ∙ ap (λ (l : List (Instance → List Stack → List Place)). getD l rank none) places-named
       ∙ map-at (λ verdict. rulePlaces (ruleOf verdict)) verdicts rank 0 none inside
 
@@ -89,29 +86,29 @@ module _ {i : Instance} {p : List Stack} where
 
   module _ (kept : Answer) where
     -- the rules below the rank are passed over
-    from-rank : (rank : ℕ) → rank ≤ ruleCount → KeptBelow i p rank → firstBroken (drop rank loading) i p kept ≡ firstBroken loading i p kept
+    from-rank : (rank : ℕ) → rank ≤ ruleCount → KeptBelow i p rank → firstBroken (drop rank loadingRules) i p kept ≡ firstBroken loadingRules i p kept
     from-rank zero upto h = refl
     from-rank (suc rank) upto h =
         let inside : rank < ruleCount = omega arith in
-        let later = drop (suc rank) loading in
-        let split : drop rank loading ≡ row rank inside ∷ later = drop-cons loading rank noRule (within rank inside) in
+        let later = drop (suc rank) loadingRules in
+        let split : drop rank loadingRules ≡ row rank inside ∷ later = drop-cons loadingRules rank noRule (within rank inside) in
         let none : row rank inside .places i p ≡ [] = rw (row-places rank inside) (h .each rank (omega arith)) in
         sym (rule-kept (row rank inside) later i p kept none) ∙ ap (λ (rs : List meant.Rule). firstBroken rs i p kept) (sym split)
         ∙ from-rank rank (omega arith) record { each = λ k below. h .each k (omega arith) }
 
     -- the first rule that is broken
     pub broken-at-rank : (rank : ℕ) (q : Place) → rank < ruleCount → KeptBelow i p rank → At q ≡ lowestIn (rulePlaces (ruleAt rank) i p)
-        → refusal (getD verdicts rank 0) q ≡ firstBroken loading i p kept
+        → refusal (getD verdicts rank 0) q ≡ firstBroken loadingRules i p kept
     broken-at-rank rank q inside h e =
-        let later = drop (suc rank) loading in
-        let split : drop rank loading ≡ row rank inside ∷ later = drop-cons loading rank noRule (within rank inside) in
+        let later = drop (suc rank) loadingRules in
+        let split : drop rank loadingRules ≡ row rank inside ∷ later = drop-cons loadingRules rank noRule (within rank inside) in
         let found : At q ≡ lowestIn (row rank inside .places i p) = rw (row-places rank inside) e in
         ap (λ verdict. refusal verdict q) (sym (row-verdict rank inside)) ∙ rule-broken (row rank inside) later i p kept q found
         ∙ ap (λ (rs : List meant.Rule). firstBroken rs i p kept) (sym split) ∙ from-rank rank (omega arith) h
 
     -- none is
-    pub all-kept : KeptBelow i p ruleCount → kept ≡ firstBroken loading i p kept
-    unfolding firstBroken rules itemRules stackRules placementRules weightRules
+    pub all-kept : KeptBelow i p ruleCount → kept ≡ firstBroken loadingRules i p kept
+    unfolding firstBroken loadingRules itemRules stackRules placementRules weightRules
     all-kept h = from-rank ruleCount (omega arith) h
 
 -- ---- 9, and then the loading rules
@@ -119,18 +116,10 @@ module _ (i : Instance) (p : List Stack) where
   abbrev accepted : Answer
   accepted = acceptance (cost i p) (length (usedTrucks p))
 
-  -- the first row
-  abbrev once : meant.Rule
-  once = record { verdict = 9; places = notOnce }
-
-  table : firstBroken (once ∷ loading) i p accepted ≡ firstBroken rules i p accepted
-  unfolding rules itemRules
-  table = refl
-
   pub once-broken : {found : Found} (q : Place) → found ≡ lowestIn (notOnce i p) → found ≡ At q → refusal 9 q ≡ verdictOn i p
-  unfolding verdictOn
-  once-broken q e f = rule-broken once loading i p accepted q (sym f ∙ e) ∙ table
+  unfolding verdictOn rules
+  once-broken q e f = rule-broken notOnceRule loadingRules i p accepted q (sym f ∙ e)
 
-  pub once-kept : {found : Found} → found ≡ lowestIn (notOnce i p) → found ≡ Nothing → firstBroken loading i p accepted ≡ verdictOn i p
-  unfolding verdictOn
-  once-kept e f = sym (rule-kept once loading i p accepted (none-listed (notOnce i p) (sym f ∙ e))) ∙ table
+  pub once-kept : {found : Found} → found ≡ lowestIn (notOnce i p) → found ≡ Nothing → firstBroken loadingRules i p accepted ≡ verdictOn i p
+  unfolding verdictOn rules
+  once-kept e f = sym (rule-kept notOnceRule loadingRules i p accepted (none-listed (notOnce i p) (sym f ∙ e)))

@@ -1,12 +1,12 @@
--- `judging::inventory_sum`: what is summed is the cost of the stacks from the current one on.
+-- `costs::inventory_sum`: what is summed is the cost of the stacks from the current one on.
 use native.Mathlib.Omega.{arith}
 use borrow.Author.Needs.{needs}
 use Rattle.meaning.specs.Table.{instanceIn, stacksIn}
 use Rattle.meaning.specs.Verdict.{inventoryCost}
 use Rattle.table.specs.Filled.{noStack}
-use Rattle.judging.proofs.Cost.{Summed, summed-start, summed-more, summed-room, summed-end, stackBound, plan-bound}
-use Rattle.judging.proofs.inventory_sum.Statement.{statement}
-use Rattle.judging.proofs.inventory_sum.Tie as tie
+use Rattle.costs.proofs.Costs.{Summed, summed-start, summed-more, summed-room, summed-end, stackBound, plan-bound}
+use Rattle.costs.proofs.inventory_sum.Statement.{statement}
+use Rattle.costs.proofs.inventory_sum.Tie as tie
 
 abbrev Inv-loop : tie.InvT-loop
 Inv-loop t limits sum₀ s₀ sum s = Summed (inventoryCost (instanceIn limits t)) stackBound (stacksIn limits t) s sum

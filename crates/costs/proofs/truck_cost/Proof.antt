@@ -1,10 +1,10 @@
--- `judging::truck_cost`: the planned truck and an extra one by the two lines of the definition.
+-- `costs::truck_cost`: the planned truck and an extra one by the two lines of the definition.
 use native.Mathlib.Omega.{arith}
 use borrow.Author.Needs.{needs}
 use Rattle.meaning.specs.Table.{instanceIn}
-use Rattle.judging.proofs.Cost.{planned-cost, extra-cost, truck-bound}
-use Rattle.judging.proofs.truck_cost.Statement.{statement}
-use Rattle.judging.proofs.truck_cost.Tie as tie
+use Rattle.costs.proofs.Costs.{planned-cost, extra-cost, truck-bound}
+use Rattle.costs.proofs.truck_cost.Statement.{statement}
+use Rattle.costs.proofs.truck_cost.Tie as tie
 
 truck-field-requires : tie.Need-truck-field-requires
 truck-field-requires c κs = search needs

@@ -19,7 +19,8 @@ use Rattle.meaning.proofs.Fields.{Within, item-within, stack-within}
 use Rattle.meaning.proofs.Tests.{and-reads, not-reads, between-reads}
 use Rattle.meaning.proofs.Lists.{all-reads, every-map, every-at, at-in, listed-reads}
 
-pub record SoundStack (i : Instance) (s : Stack) : Type 0 where
+-- of a stack: it has a bottom item, with an extent, an orientation, and a truck whose lists have no entry twice
+pub record WellFormedStack (i : Instance) (s : Stack) : Type 0 where
   pub some : In (getD (s .load) 0 0) (s .load)
   pub turned : (orientation s ≡ 1) ⊎ (orientation s ≡ 2)
   pub long : 1 ≤ IL (bottom i s)
@@ -29,8 +30,9 @@ pub record SoundStack (i : Instance) (s : Stack) : Type 0 where
   pub docks : Every (λ (d : List ℕ). distinct d ≡ true) (truckOf i s .docks)
   pub plantDocks : distinct (truckOf i s .plantDocks) ≡ true
 
-pub record Sound (i : Instance) (p : List Stack) : Type 0 where
-  pub stacks : (s : Stack) → In s p → SoundStack i s
+-- of a plan: every stack is well formed, and known by its number
+pub record WellFormed (i : Instance) (p : List Stack) : Type 0 where
+  pub stacks : (s : Stack) → In s p → WellFormedStack i s
   pub known : (s r : Stack) → In s p → In r p → number s ≡ number r → s ≡ r
 
 -- ---- fields
@@ -52,9 +54,9 @@ module _ {m : Limits} {i : Instance} (h : InstanceMeets m i) where
       every-at (Meets itemLine) (i .items) [] (n - 1) (h .items) (omega (arith, b))
 
   -- what the two lines of a stack give
-  stack-sound : (s : Stack) (earlier : List ℕ) (loaded : ℕ) → Meets (stackLine (length (i .trucks)) earlier) (s .fields)
-      → Meets (loadLine (m .loads) (length (i .items)) loaded) (s .load) → SoundStack i s
-  stack-sound s earlier loaded f l =
+  stack-formed : (s : Stack) (earlier : List ℕ) (loaded : ℕ) → Meets (stackLine (length (i .trucks)) earlier) (s .fields)
+      → Meets (loadLine (m .loads) (length (i .items)) loaded) (s .load) → WellFormedStack i s
+  stack-formed s earlier loaded f l =
       let first = at-in (s .load) 0 0 (l .least) in
       let meets = loaded-meets loaded (s .load) l in
       let bottomMeets = meets (getD (s .load) 0 0) first in
@@ -72,11 +74,11 @@ module _ {m : Limits} {i : Instance} (h : InstanceMeets m i) where
       }
 
   -- and so every stack, whatever stands before it
-  stacks-sound : (earlier : List ℕ) (loaded : ℕ) (p : List Stack) → StacksMeet (m .loads) (length (i .items)) (length (i .trucks)) earlier loaded p
-      → (s : Stack) → In s p → SoundStack i s
-  stacks-sound earlier loaded [] k s n = absurd n
-  stacks-sound earlier loaded (r ∷ p) k s (inl e) = subst (SoundStack i) (sym e) (stack-sound r earlier loaded (k .0) (k .1))
-  stacks-sound earlier loaded (r ∷ p) k s (inr n) = stacks-sound _ _ p (k .2) s n
+  stacks-formed : (earlier : List ℕ) (loaded : ℕ) (p : List Stack) → StacksMeet (m .loads) (length (i .items)) (length (i .trucks)) earlier loaded p
+      → (s : Stack) → In s p → WellFormedStack i s
+  stacks-formed earlier loaded [] k s n = absurd n
+  stacks-formed earlier loaded (r ∷ p) k s (inl e) = subst (WellFormedStack i) (sym e) (stack-formed r earlier loaded (k .0) (k .1))
+  stacks-formed earlier loaded (r ∷ p) k s (inr n) = stacks-formed _ _ p (k .2) s n
 
 -- ---- the numbers of the stacks
 module _ (most items trucks : ℕ) where
@@ -98,9 +100,9 @@ module _ (most items trucks : ℕ) where
   known-by-number earlier loaded (q ∷ p) h s r (inr m) (inl b) e = absurd (not-earlier _ _ p (h .2) s m (inl (e ∙ ap number b)))
   known-by-number earlier loaded (q ∷ p) h s r (inr m) (inr n) e = known-by-number _ _ p (h .2) s r m n e
 
-pub meets-sound : (m : Limits) (i : Instance) (p : List Stack) → FilesMeet m i p → Sound i p
-meets-sound m i p h =
+pub meets-formed : (m : Limits) (i : Instance) (p : List Stack) → FilesMeet m i p → WellFormed i p
+meets-formed m i p h =
     record {
-      stacks = stacks-sound (h .instance) [] 0 p (h .stacks);
+      stacks = stacks-formed (h .instance) [] 0 p (h .stacks);
       known = known-by-number (m .loads) (length (i .items)) (length (i .trucks)) [] 0 p (h .stacks);
     }
