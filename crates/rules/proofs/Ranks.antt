@@ -64,6 +64,7 @@ module _ (rank : ℕ) (inside : rank < ruleCount) where
   row-verdict = sym (map-at (λ (r : meant.Rule). r .verdict) loadingRules rank noRule 0 within) ∙ ap (λ (l : List ℕ). getD l rank 0) verdicts-named
 
   row-places : row .places ≡ rulePlaces (ruleAt rank)
+  unfolding ruleAt
   row-places =
       let none : Instance → List Stack → List Place = λ i p. [] in
       sym (map-at (λ (r : meant.Rule). r .places) loadingRules rank noRule none within)

@@ -121,7 +121,7 @@ abbrev pub ruleOf : ℕ → Rule
 ruleOf verdict = ruleAmong named verdict
 
 -- the rule of a rank
-abbrev pub ruleAt : ℕ → Rule
+unfoldable pub ruleAt : ℕ → Rule
 ruleAt rank = ruleOf (getD verdicts rank 0)
 
 -- the rules of the ranks below this one are kept
