@@ -17,7 +17,7 @@ use Rattle.meaning.specs.Meets.{Meets, TruckMeets}
 use Rattle.meaning.proofs.Lists.{every-at}
 use Rattle.meaning.proofs.Sums.{sum-most, sum-factor, length-flatMap}
 use Rattle.meaning.proofs.Ranges.{meets-fits}
-use Rattle.table.specs.Filled.{Filled, LoadInRange, noStack, stackAt, ItemNumber, TruckNumber, docksAtOrder, itemPlace, itemMost, truckMost, stackMost}
+use Rattle.table.specs.Filled.{Filled, LoadOfItems, noStack, stackAt, ItemNumber, TruckNumber, docksAtOrder, itemPlace, itemMost, truckMost, stackMost}
 use Rattle.table.proofs.Parts.{part, part-at, part-short, part-front, length-part, behind}
 use Rattle.table.proofs.Bounds.{StackBounded, stacks-bounded, item-most, truck-most, stack-most}
 use Rattle.table.proofs.Words.{docks-row, item-row, truck-row, stack-row}
@@ -130,7 +130,7 @@ module _ {m : Limits} {t : List ℕ} (h : Filled m t) where
   pub stack-field-most : (s : ℕ) → s < length (stacksIn m t) → (f : ℕ) → f < 6 → getD (stackAt (stacksIn m t) s .fields) f 0 ≤ stackMost f
   stack-field-most s k = stack-most _ _ (stackAt (stacksIn m t) s) (stack-in s k) (omega (arith, h .range .instance .head .truckCount, h .bounded .words))
 
-  pub load-in : (s : ℕ) → s < length (stacksIn m t) → LoadInRange (instanceIn m t) (stackAt (stacksIn m t) s .load)
+  pub load-in : (s : ℕ) → s < length (stacksIn m t) → LoadOfItems (instanceIn m t) (stackAt (stacksIn m t) s .load)
   load-in s k = let b = stack-in s k in record { some = b .someEntry; few = b .fewEntries; entries = b .entries }
 
   module _ {s : ℕ} (k : s < length (stacksIn m t)) {words : List ℕ} (e : words ≡ part (stackPlace m s) 8 t) where
@@ -150,7 +150,7 @@ module _ {m : Limits} {t : List ℕ} (h : Filled m t) where
     load-room = rw (e, part-at (stackPlace m s) 8 6 t 0 (omega arith), part-at (stackPlace m s) 8 7 t 0 (omega arith)) (h .loads s k)
 
     pub load-read : {loads r : List ℕ} → loads ≡ part (loadsAt m) (m .loads) t → r ≡ part (getD words 6 0) (getD words 7 0) loads
-        → (r ≡ stackAt (stacksIn m t) s .load) × LoadInRange (instanceIn m t) r
+        → (r ≡ stackAt (stacksIn m t) s .load) × LoadOfItems (instanceIn m t) r
     unfolding stackIn
     load-read el er =
         let same = er ∙ rw el (part-front (getD words 6 0) (getD words 7 0) (m .loads) (drop (loadsAt m) t) load-room) ∙ sym (ap (λ (a : Stack). a .load) stack-is) in

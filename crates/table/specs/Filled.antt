@@ -36,8 +36,8 @@ pub record Filled (m : Limits) (t : List ℕ) : Type 0 where
   pub docks : (n k : ℕ) → TruckNumber (instanceIn m t) n → k < 8 → dockCount m t n k ≤ 8
   pub loads : (s : ℕ) → s < length (stacksIn m t) → loadFirst m t s + loadCount m t s ≤ m .loads
 
--- a load in range: 1 to 64 entries, each the number of an item
-pub record LoadInRange (i : Instance) (load : List ℕ) : Type 0 where
+-- a load of items: 1 to 64 entries, each the number of one
+pub record LoadOfItems (i : Instance) (load : List ℕ) : Type 0 where
   pub some : 1 ≤ length load
   pub few : length load ≤ 64
   pub entries : (j : ℕ) → j < length load → ItemNumber i (getD load j 0)

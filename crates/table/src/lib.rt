@@ -6,7 +6,7 @@ ghost use Rattle.meaning.specs.Lists.{listed, orderIn};
 ghost use Rattle.meaning.specs.Limits.{small, trucksAt, stacksAt, loadsAt, named};
 ghost use Rattle.meaning.specs.Model.{item, truckNumbered, truck};
 ghost use Rattle.meaning.specs.Table.{instanceIn, stacksIn, truckPlace, stackPlace};
-ghost use Rattle.table.specs.Filled.{Bounded, Room, Filled, LoadInRange, stackAt, ItemNumber, TruckNumber, docksAtOrder, itemPlace};
+ghost use Rattle.table.specs.Filled.{Bounded, Room, Filled, LoadOfItems, stackAt, ItemNumber, TruckNumber, docksAtOrder, itemPlace};
 ghost use Rattle.table.specs.Filled.{itemMost, truckMost, stackMost};
 use fields::TRUCK;
 use layout::DOCK_COUNTS;
@@ -100,7 +100,7 @@ fn as_index(word: u32) -> usize
 }
 
 // So many words from a place on.
-fn part<'a>(words: &'a [u32], first: usize, count: usize) -> &'a [u32]
+fn words_from<'a>(words: &'a [u32], first: usize, count: usize) -> &'a [u32]
     requires { ⌜ first + count ≤ length (now words) ⌝ }
     ensures { λ r. ⌜ (now r ≡ take count (drop first (now (words .entry)))) × (length (now r) ≡ count) ⌝ }
 {
@@ -113,7 +113,7 @@ pub fn head_words<'a>(t: &'a [u32], limits: Limits) -> &'a [u32]
     requires { ⌜ Room limits (now t) ⌝ }
     ensures { λ r. ⌜ (now r ≡ take 16 (now (t .entry))) × (length (now r) ≡ 16) ⌝ }
 {
-    part(t, 0, HEAD_WORDS)
+    words_from(t, 0, HEAD_WORDS)
 }
 
 // The words of an item.
@@ -121,7 +121,7 @@ pub fn item_words<'a>(t: &'a [u32], limits: Limits, n: u32) -> &'a [u32]
     requires { ⌜ Room limits (now t) × (1 ≤ n) × (n ≤ limits .items) ⌝ }
     ensures { λ r. ⌜ (now r ≡ take 16 (drop (itemPlace n) (now (t .entry)))) × (length (now r) ≡ 16) ⌝ }
 {
-    part(t, HEAD_WORDS + ITEM_WORDS * (as_index(n) - 1), ITEM_WORDS)
+    words_from(t, HEAD_WORDS + ITEM_WORDS * (as_index(n) - 1), ITEM_WORDS)
 }
 
 // The words of a truck.
@@ -129,7 +129,7 @@ pub fn truck_words<'a>(t: &'a [u32], limits: Limits, n: u32) -> &'a [u32]
     requires { ⌜ Room limits (now t) × (1 ≤ n) × (n ≤ limits .trucks) ⌝ }
     ensures { λ r. ⌜ (now r ≡ take 160 (drop (truckPlace limits n) (now (t .entry)))) × (length (now r) ≡ 160) ⌝ }
 {
-    part(
+    words_from(
         t,
         trucks_at(limits) + TRUCK_WORDS * (as_index(n) - 1),
         TRUCK_WORDS,
@@ -141,7 +141,7 @@ pub fn stack_words<'a>(t: &'a [u32], limits: Limits, s: usize) -> &'a [u32]
     requires { ⌜ Room limits (now t) × (s < limits .stacks) ⌝ }
     ensures { λ r. ⌜ (now r ≡ take 8 (drop (stackPlace limits s) (now (t .entry)))) × (length (now r) ≡ 8) ⌝ }
 {
-    part(t, stacks_at(limits) + STACK_WORDS * s, STACK_WORDS)
+    words_from(t, stacks_at(limits) + STACK_WORDS * s, STACK_WORDS)
 }
 
 // The words of all loads.
@@ -149,7 +149,7 @@ pub fn load_words<'a>(t: &'a [u32], limits: Limits) -> &'a [u32]
     requires { ⌜ Room limits (now t) ⌝ }
     ensures { λ r. ⌜ (now r ≡ take (limits .loads) (drop (loadsAt limits) (now (t .entry)))) × (length (now r) ≡ limits .loads) ⌝ }
 {
-    part(t, loads_at(limits), limits.loads)
+    words_from(t, loads_at(limits), limits.loads)
 }
 
 // A list that stands behind its count.
@@ -157,7 +157,7 @@ fn counted<'a>(words: &'a [u32], at: usize) -> &'a [u32]
     requires { ⌜ (at < length (now words)) × (at + 1 + getD (now words) at 0 ≤ length (now words)) ⌝ }
     ensures { λ r. ⌜ now r ≡ take (getD (now (words .entry)) at 0) (drop (at + 1) (now (words .entry))) ⌝ }
 {
-    part(words, at + 1, as_index(words[at]))
+    words_from(words, at + 1, as_index(words[at]))
 }
 
 // ---- the accessors of a filled table. They take the limits and the table also where the code needs one of them only, for their promises
@@ -251,7 +251,7 @@ fn docks_at<'a>(words: &'a [u32], row: usize) -> &'a [u32]
     ensures { λ r. ⌜ now r ≡ take (getD (now (words .entry)) (62 + row) 0) (drop (70 + 8 * row) (now (words .entry))) ⌝ }
 {
     let count = as_index(words[DOCK_COUNTS + row]);
-    part(words, DOCKS + SUPPLIER_DOCKS * row, count)
+    words_from(words, DOCKS + SUPPLIER_DOCKS * row, count)
 }
 
 // The docks of a truck's supplier, who is given by the loading order.
@@ -319,12 +319,12 @@ pub fn stack_truck(t: &[u32], limits: Limits, s: usize) -> u32
 // The load of a stack: the numbers of its items, bottom first.
 pub fn load<'a>(t: &'a [u32], limits: Limits, s: usize) -> &'a [u32]
     requires { ⌜ Filled limits (now t) × (s < length (stacksIn limits (now t))) ⌝ }
-    ensures { λ r. ⌜ (now r ≡ stackAt (stacksIn limits (now (t .entry))) s .load) × LoadInRange (instanceIn limits (now (t .entry))) (now r) ⌝ }
+    ensures { λ r. ⌜ (now r ≡ stackAt (stacksIn limits (now (t .entry))) s .load) × LoadOfItems (instanceIn limits (now (t .entry))) (now r) ⌝ }
 {
     let words = stack_words(t, limits, s);
     let first = as_index(words[LOAD_FIRST]);
     let count = as_index(words[LOAD_COUNT]);
-    part(load_words(t, limits), first, count)
+    words_from(load_words(t, limits), first, count)
 }
 
 // How many items a stack has.

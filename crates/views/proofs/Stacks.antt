@@ -17,13 +17,13 @@ use Rattle.meaning.proofs.Lists.{in-at}
 use Rattle.meaning.proofs.Fields.{item-within}
 use Rattle.meaning.proofs.Sums.{sum-below, sum-drop}
 use Rattle.meaning.proofs.Orders.{list-at}
-use Rattle.table.specs.Filled.{Filled, LoadInRange, ItemNumber, docksAtOrder}
+use Rattle.table.specs.Filled.{Filled, LoadOfItems, ItemNumber, docksAtOrder}
 use Rattle.table.proofs.Access.{item-in}
 use Rattle.views.specs.declared.OrderRange.{OrderRange}
 use Rattle.views.specs.Views.{loadOnly, sizeOf, rangeWith}
 
 -- ---- heights: no item nests deeper than it is high
-pub nested-less : {m : Limits} {t load : List ℕ} → Filled m t → LoadInRange (instanceIn m t) load → {heights nested : ℕ}
+pub nested-less : {m : Limits} {t load : List ℕ} → Filled m t → LoadOfItems (instanceIn m t) load → {heights nested : ℕ}
     → heights ≡ sum (λ n. IH (item (instanceIn m t) n)) load → nested ≡ sum (λ n. nesting (item (instanceIn m t) n)) (drop 1 load) → nested ≤ heights
 nested-less {m} {t} {load} h l eh en =
     let high : ℕ → ℕ = λ n. IH (item (instanceIn m t) n) in

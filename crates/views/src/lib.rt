@@ -9,7 +9,7 @@ ghost use Rattle.meaning.specs.Model.{item, truckOf, truckNumbered, IL, IW, IG,
 ghost use Rattle.meaning.specs.Measures.{bottom, docksOf};
 ghost use Rattle.meaning.specs.Rules.{plantDockCount};
 ghost use Rattle.meaning.specs.Table.{instanceIn, stacksIn};
-ghost use Rattle.table.specs.Filled.{Filled, LoadInRange, stackAt, ItemNumber, TruckNumber, itemMost, truckMost};
+ghost use Rattle.table.specs.Filled.{Filled, LoadOfItems, stackAt, ItemNumber, TruckNumber, itemMost, truckMost};
 ghost use Rattle.views.specs.Views.{positionOf, PositionInRange, extentOf, footprintFrom, sizeOf, loadOnly};
 ghost use Rattle.views.specs.Views.{plantDockOrders, rangeWith, rangeOf, rankOf, plantDocksFrom};
 use meaning::Limits;
@@ -141,7 +141,7 @@ pub fn footprint_from(position: Position, length: u32, width: u32) -> Footprint
 
 // The ground of a stack, by its position and its load.
 pub fn read_footprint(t: &[u32], limits: Limits, position: Position, load: &[u32]) -> Footprint
-    requires { ⌜ Filled limits (now t) × LoadInRange (instanceIn limits (now t)) (now load) × PositionInRange position ⌝ }
+    requires { ⌜ Filled limits (now t) × LoadOfItems (instanceIn limits (now t)) (now load) × PositionInRange position ⌝ }
     ensures { λ r. ⌜ r ≡ footprintFrom position (IL (item (instanceIn limits (now (t .entry))) (getD (now (load .entry)) 0 0)))
         (IW (item (instanceIn limits (now (t .entry))) (getD (now (load .entry)) 0 0))) ⌝ }
 {
@@ -155,7 +155,7 @@ pub fn read_footprint(t: &[u32], limits: Limits, position: Position, load: &[u32
 
 // The sum of a field over the items of a load: all of them from 0, those above the bottom item from 1.
 pub fn load_sum(t: &[u32], limits: Limits, load: &[u32], from: usize, field: usize) -> u32
-    requires { ⌜ Filled limits (now t) × LoadInRange (instanceIn limits (now t)) (now load) × (from ≤ 1) × (field < 16) ⌝ }
+    requires { ⌜ Filled limits (now t) × LoadOfItems (instanceIn limits (now t)) (now load) × (from ≤ 1) × (field < 16) ⌝ }
     ensures { λ r. ⌜ (r ≡ sum (λ n. getD (item (instanceIn limits (now (t .entry))) n) field 0) (drop from (now (load .entry))))
         × (r ≤ itemMost field * 64) ⌝ }
 {
@@ -170,7 +170,7 @@ pub fn load_sum(t: &[u32], limits: Limits, load: &[u32], from: usize, field: usi
 
 // The weight and the height of a load. Each item but the bottom one sinks by its nesting height into the one below it.
 pub fn read_size(t: &[u32], limits: Limits, load: &[u32]) -> Size
-    requires { ⌜ Filled limits (now t) × LoadInRange (instanceIn limits (now t)) (now load) ⌝ }
+    requires { ⌜ Filled limits (now t) × LoadOfItems (instanceIn limits (now t)) (now load) ⌝ }
     ensures { λ r. ⌜ r ≡ sizeOf (instanceIn limits (now (t .entry))) (now (load .entry)) ⌝ }
 {
     let weight = load_sum(t, limits, load, 0, IM);
@@ -251,7 +251,7 @@ fn including(range: OrderRange, order: u32) -> OrderRange
 
 // The range of the plant dock orders of a load's items.
 fn plant_dock_range(t: &[u32], limits: Limits, truck: u32, load: &[u32]) -> OrderRange
-    requires { ⌜ Filled limits (now t) × TruckNumber (instanceIn limits (now t)) truck × LoadInRange (instanceIn limits (now t)) (now load) ⌝ }
+    requires { ⌜ Filled limits (now t) × TruckNumber (instanceIn limits (now t)) truck × LoadOfItems (instanceIn limits (now t)) (now load) ⌝ }
     ensures { λ r. ⌜ r ≡ rangeOf (plantDockOrders (instanceIn limits (now (t .entry))) truck (now (load .entry))) ⌝ }
 {
     let docks = plant_docks(t, limits, truck);
@@ -270,7 +270,7 @@ fn plant_dock_range(t: &[u32], limits: Limits, truck: u32, load: &[u32]) -> Orde
 
 // The rank of a stack in the loading order, by its truck's number and its load.
 pub fn read_rank(t: &[u32], limits: Limits, truck: u32, load: &[u32]) -> Rank
-    requires { ⌜ Filled limits (now t) × TruckNumber (instanceIn limits (now t)) truck × LoadInRange (instanceIn limits (now t)) (now load) ⌝ }
+    requires { ⌜ Filled limits (now t) × TruckNumber (instanceIn limits (now t)) truck × LoadOfItems (instanceIn limits (now t)) (now load) ⌝ }
     ensures { λ r. ⌜ r ≡ rankOf (instanceIn limits (now (t .entry))) truck (now (load .entry)) ⌝ }
 {
     let bottom = load[0];
@@ -290,7 +290,7 @@ pub fn read_rank(t: &[u32], limits: Limits, truck: u32, load: &[u32]) -> Rank
 
 // Whether an item of a load, from place `from` on, has this plant dock.
 fn has_plant_dock(t: &[u32], limits: Limits, load: &[u32], from: usize, dock: u32) -> bool
-    requires { ⌜ Filled limits (now t) × LoadInRange (instanceIn limits (now t)) (now load) × (from ≤ length (now load)) ⌝ }
+    requires { ⌜ Filled limits (now t) × LoadOfItems (instanceIn limits (now t)) (now load) × (from ≤ length (now load)) ⌝ }
     ensures { λ r. ⌜ r ≡ listed dock (plantDocksFrom (instanceIn limits (now (t .entry))) (now (load .entry)) from) ⌝ }
 {
     let mut j = from;
@@ -305,7 +305,7 @@ fn has_plant_dock(t: &[u32], limits: Limits, load: &[u32], from: usize, dock: u3
 
 // How many plant docks a load has. A dock is counted at the last item that has it.
 pub fn plant_dock_count(t: &[u32], limits: Limits, load: &[u32]) -> u32
-    requires { ⌜ Filled limits (now t) × LoadInRange (instanceIn limits (now t)) (now load) ⌝ }
+    requires { ⌜ Filled limits (now t) × LoadOfItems (instanceIn limits (now t)) (now load) ⌝ }
     ensures { λ r. ⌜ (r ≡ plantDockCount (instanceIn limits (now (t .entry))) (loadOnly (now (load .entry)))) × (r ≤ 64) ⌝ }
 {
     let mut count: u32 = 0;

@@ -3,8 +3,8 @@ use borrow.Author.Needs.{needs}
 use Rattle.table.proofs.counted.Statement.{statement}
 use Rattle.table.proofs.counted.Tie as tie
 
-add-part : tie.Need-add-part
-add-part c = search needs
+add-words-from : tie.Need-add-words-from
+add-words-from c = search needs
 
 mul-as-index : tie.Need-mul-as-index
 mul-as-index c = search needs
@@ -15,19 +15,19 @@ shared-slice-read-as-index c = search needs
 as-index-requires : tie.Need-as-index-requires
 as-index-requires c κs = search needs
 
-part-requires : tie.Need-part-requires
-part-requires c κs = search needs
+words-from-requires : tie.Need-words-from-requires
+words-from-requires c κs = search needs
 
 returns : tie.Need-returns
-returns c = rw (c .before .as-index .ensures .0) at (c .part .ensures .0)
+returns c = rw (c .before .as-index .ensures .0) at (c .words-from .ensures .0)
 
 pub counted-spec : {M : Type 1} → statement M
 counted-spec =
     tie.close
     (tie.spec
-    add-part
+    add-words-from
     mul-as-index
     shared-slice-read-as-index
     as-index-requires
-    part-requires
+    words-from-requires
     returns)

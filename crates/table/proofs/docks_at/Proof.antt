@@ -15,17 +15,17 @@ shared-slice-read-as-index c = search needs
 as-index-requires : tie.Need-as-index-requires
 as-index-requires c κs = search needs
 
-mul-part : tie.Need-mul-part
-mul-part c = search needs
+mul-words-from : tie.Need-mul-words-from
+mul-words-from c = search needs
 
-add-part : tie.Need-add-part
-add-part c = search needs
+add-words-from : tie.Need-add-words-from
+add-words-from c = search needs
 
-part-requires : tie.Need-part-requires
-part-requires c κs = search needs
+words-from-requires : tie.Need-words-from-requires
+words-from-requires c κs = search needs
 
 returns : tie.Need-returns
-returns c = rw (c .before .as-index .ensures .0) at (c .part .ensures .0)
+returns c = rw (c .before .as-index .ensures .0) at (c .words-from .ensures .0)
 
 pub docks-at-spec : {M : Type 1} → statement M
 docks-at-spec =
@@ -35,7 +35,7 @@ docks-at-spec =
     mul-as-index
     shared-slice-read-as-index
     as-index-requires
-    mul-part
-    add-part
-    part-requires
+    mul-words-from
+    add-words-from
+    words-from-requires
     returns)

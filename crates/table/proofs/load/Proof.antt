@@ -23,8 +23,8 @@ as-index-requires-2 c κs = search needs
 load-words-requires : tie.Need-load-words-requires
 load-words-requires c κs = search needs
 
-part-requires : tie.Need-part-requires
-part-requires c κs =
+words-from-requires : tie.Need-words-from-requires
+words-from-requires c κs =
     let count = c .before in
     let first = count .before .before in
     let words = first .before .before in
@@ -38,7 +38,7 @@ returns c =
     let first = count .before .before in
     let words = first .before .before in
     let s = words .before .before in
-    let part = rw (first .as-index .ensures .0, count .as-index2 .ensures .0) at (c .part .ensures .0) in
+    let part = rw (first .as-index .ensures .0, count .as-index2 .ensures .0) at (c .words-from .ensures .0) in
     load-read (s .pre .0) (s .pre .1) (words .stack-words .ensures .0) (loads .load-words .ensures .0) part
 
 pub load-spec : {M : Type 1} → statement M
@@ -51,5 +51,5 @@ load-spec =
     shared-slice-read-as-index-2
     as-index-requires-2
     load-words-requires
-    part-requires
+    words-from-requires
     returns)

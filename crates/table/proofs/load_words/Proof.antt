@@ -6,11 +6,11 @@ use Rattle.table.proofs.load_words.Tie as tie
 loads-at-requires : tie.Need-loads-at-requires
 loads-at-requires c κs = search needs
 
-part-requires : tie.Need-part-requires
-part-requires c κs = search needs
+words-from-requires : tie.Need-words-from-requires
+words-from-requires c κs = search needs
 
 returns : tie.Need-returns
-returns c = rw (c .before .loads-at .ensures) at (c .part .ensures)
+returns c = rw (c .before .loads-at .ensures) at (c .words-from .ensures)
 
 pub load-words-spec : {M : Type 1} → statement M
-load-words-spec = tie.close (tie.spec loads-at-requires part-requires returns)
+load-words-spec = tie.close (tie.spec loads-at-requires words-from-requires returns)

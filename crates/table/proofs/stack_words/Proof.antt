@@ -6,17 +6,17 @@ use Rattle.table.proofs.stack_words.Tie as tie
 stacks-at-requires : tie.Need-stacks-at-requires
 stacks-at-requires c κs = search needs
 
-mul-part : tie.Need-mul-part
-mul-part c = search needs
+mul-words-from : tie.Need-mul-words-from
+mul-words-from c = search needs
 
-add-part : tie.Need-add-part
-add-part c = search needs
+add-words-from : tie.Need-add-words-from
+add-words-from c = search needs
 
-part-requires : tie.Need-part-requires
-part-requires c κs = search needs
+words-from-requires : tie.Need-words-from-requires
+words-from-requires c κs = search needs
 
 returns : tie.Need-returns
-returns c = rw (c .before .stacks-at .ensures) at (c .part .ensures)
+returns c = rw (c .before .stacks-at .ensures) at (c .words-from .ensures)
 
 pub stack-words-spec : {M : Type 1} → statement M
-stack-words-spec = tie.close (tie.spec stacks-at-requires mul-part add-part part-requires returns)
+stack-words-spec = tie.close (tie.spec stacks-at-requires mul-words-from add-words-from words-from-requires returns)

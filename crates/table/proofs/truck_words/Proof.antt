@@ -9,20 +9,20 @@ trucks-at-requires c κs = search needs
 as-index-requires : tie.Need-as-index-requires
 as-index-requires c κs = search needs
 
-sub-part : tie.Need-sub-part
-sub-part c = search needs
+sub-words-from : tie.Need-sub-words-from
+sub-words-from c = search needs
 
-mul-part : tie.Need-mul-part
-mul-part c = search needs
+mul-words-from : tie.Need-mul-words-from
+mul-words-from c = search needs
 
-add-part : tie.Need-add-part
-add-part c = search needs
+add-words-from : tie.Need-add-words-from
+add-words-from c = search needs
 
-part-requires : tie.Need-part-requires
-part-requires c κs = search needs
+words-from-requires : tie.Need-words-from-requires
+words-from-requires c κs = search needs
 
 returns : tie.Need-returns
-returns c = rw (c .before .before .trucks-at .ensures, c .before .as-index .ensures .0) at (c .part .ensures)
+returns c = rw (c .before .before .trucks-at .ensures, c .before .as-index .ensures .0) at (c .words-from .ensures)
 
 pub truck-words-spec : {M : Type 1} → statement M
 truck-words-spec =
@@ -30,8 +30,8 @@ truck-words-spec =
     (tie.spec
     trucks-at-requires
     as-index-requires
-    sub-part
-    mul-part
-    add-part
-    part-requires
+    sub-words-from
+    mul-words-from
+    add-words-from
+    words-from-requires
     returns)

@@ -1,11 +1,11 @@
--- `table::part`: the end is the start and the count, so the part has as many words as are asked for.
+-- `table::words_from`: the end is the start and the count, so the part has as many words as are asked for.
 use mathlib.Core.Path.{_≡_, refl}
 use Prim.Native.Nat.{_+_, _-_}
 use native.Mathlib.Omega.{arith}
 use borrow.Author.Needs.{needs}
 use Rattle.table.proofs.Parts.{length-part}
-use Rattle.table.proofs.part.Statement.{statement}
-use Rattle.table.proofs.part.Tie as tie
+use Rattle.table.proofs.words_from.Statement.{statement}
+use Rattle.table.proofs.words_from.Tie as tie
 
 add-end : tie.Need-add-end
 add-end c = search needs
@@ -29,6 +29,6 @@ returns c =
     let size : a .first + a .count - a .first ≡ a .count = omega arith in
     rw size (refl, length-part (a .first) (a .count) (a .words .now) (s .pre))
 
-pub part-spec : {M : Type 1} → statement M
-part-spec =
+pub words-from-spec : {M : Type 1} → statement M
+words-from-spec =
     tie.close (tie.spec add-end mul-result sub-result part-result-start part-result-end returns)
