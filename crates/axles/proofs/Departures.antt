@@ -2,13 +2,13 @@
 use mathlib.Core.Path.{_≡_, refl, sym, ap, ap₂, _∙_}
 use mathlib.Core.Bool.{Bool, not, _&&_}
 use mathlib.Core.List.{List, map, flatMap, append-nil}
-use Prim.Native.Nat.{ℕ, _+_, _-_, _≤_, _<_}
+use Prim.Native.Nat.{ℕ, _-_, _≤_, _<_}
 use native.Mathlib.Omega.{arith}
 use lib.Dec.{leb}
 use lib.ListN.{length, getD}
 use Rattle.meaning.specs.declared.Limits.{Limits}
 use Rattle.meaning.specs.declared.Place.{Place}
-use Rattle.meaning.specs.Lists.{filter, onlyIf, upFrom}
+use Rattle.meaning.specs.Lists.{onlyIf, upFrom}
 use Rattle.meaning.specs.Places.{place}
 use Rattle.meaning.specs.Model.{Instance, Truck, Stack, truckNumbered, TMm}
 use Rattle.meaning.specs.Measures.{UsedTruck, usedBy, stacksAtDeparture, departures, weightOn, H}
@@ -23,7 +23,6 @@ use Rattle.visits.specs.Visits.{visitAt, block, HoldsRows, OneTruck}
 use Rattle.visits.specs.declared.Block.{Block}
 use Rattle.visits.proofs.UsedTrucks.{block-length, block-used, used-one, all-on}
 use Rattle.axles.specs.declared.AxleData.{AxleData}
-use Rattle.axles.specs.declared.WeightPlaces.{WeightPlaces}
 use Rattle.axles.specs.Weights.{placesOf, isOn, onAt, weightOf, axleData, middleHolds, rearHolds}
 use Rattle.axles.specs.Weights.{middleUnder, rearUnder, exceeds, LowestPlaces}
 use Rattle.axles.proofs.Rows.{Inside, from-inside, counts-if, block-places, weights-are, levers-are, on-are}

@@ -16,11 +16,11 @@ use Rattle.axles.specs.Weights.{placesFrom, isOn, weightAt, weightOf, le
 use Rattle.axles.proofs.Signed.{less-size, plus-size, times-size}
 
 -- ---- one place more, in front of the others
-pub places-none : {k end : ℕ} → end ≤ k → placesFrom k end ≡ []
+places-none : {k end : ℕ} → end ≤ k → placesFrom k end ≡ []
 unfolding upFrom
 places-none {k} {end} h = let n : end - k ≡ 0 = omega arith in rw n refl
 
-pub places-more : {k next end : ℕ} → next ≡ k + 1 → k < end → placesFrom k end ≡ k ∷ placesFrom next end
+places-more : {k next end : ℕ} → next ≡ k + 1 → k < end → placesFrom k end ≡ k ∷ placesFrom next end
 unfolding upFrom
 places-more {k} {next} {end} step some =
     let n : end - k ≡ suc (end - next) = omega arith in
@@ -81,21 +81,21 @@ sumℤ-if f true k l = refl
 sumℤ-if f false k l = +ℤ-idl (sumℤ f l)
 
 -- both sums
-pub record LoadFrom (rows : List ℕ) (departure twice start k end w : ℕ) (z : ℤ) : Type 0 where
+pub record SumsFrom (rows : List ℕ) (departure twice start k end w : ℕ) (z : ℤ) : Type 0 where
   pub weight : SumFrom (weightOn rows departure) start k end w
   pub levers : SumFrom (leversOn rows departure twice) start k end z
 
 module _ {rows : List ℕ} {departure twice start end : ℕ} where
-  pub load-start : start ≤ end → LoadFrom rows departure twice start end end 0 (pos 0)
+  pub sums-start : start ≤ end → SumsFrom rows departure twice start end end 0 (pos 0)
   unfolding filter sum sumℤ
-  load-start h = record { weight = sum-start h refl; levers = sum-start h refl }
+  sums-start h = record { weight = sum-start h refl; levers = sum-start h refl }
 
-  module _ {k w : ℕ} {z : ℤ} (h : LoadFrom rows departure twice start k end w z) where
-    pub load-more : {weight : ℕ} {lever : ℤ} → start < k → weight ≡ cond (isOn rows departure (k - 1)) (weightAt rows (k - 1)) 0
+  module _ {k w : ℕ} {z : ℤ} (h : SumsFrom rows departure twice start k end w z) where
+    pub sums-more : {weight : ℕ} {lever : ℤ} → start < k → weight ≡ cond (isOn rows departure (k - 1)) (weightAt rows (k - 1)) 0
         → lever ≡ cond (isOn rows departure (k - 1)) (leverAt rows twice (k - 1)) (pos 0)
-        → LoadFrom rows departure twice start (k - 1) end (weight + w) (lever +ℤ z)
+        → SumsFrom rows departure twice start (k - 1) end (weight + w) (lever +ℤ z)
     unfolding filter
-    load-more l ew el =
+    sums-more l ew el =
         let b = isOn rows departure (k - 1) in
         let on = filter (isOn rows departure) (placesFrom k end) in
         record {
@@ -103,8 +103,8 @@ module _ {rows : List ℕ} {departure twice start end : ℕ} where
           levers = sum-more (h .levers) l (ap₂ _+ℤ_ el (h .levers .is) ∙ sumℤ-if (leverAt rows twice) b (k - 1) on);
         }
 
-    pub load-end : k ≤ start → (w ≡ weightOn rows departure (placesFrom start end)) × (z ≡ leversOn rows departure twice (placesFrom start end))
-    load-end l = (sum-end (h .weight) l, sum-end (h .levers) l)
+    pub sums-end : k ≤ start → (w ≡ weightOn rows departure (placesFrom start end)) × (z ≡ leversOn rows departure twice (placesFrom start end))
+    sums-end l = (sum-end (h .weight) l, sum-end (h .levers) l)
 
 -- ---- how large the sums are
 distance-size : (a b e most : ℕ) → a ≤ most → b + e ≤ most → natAbs (pos a -ℤ pos b -ℤ pos e) ≤ most

@@ -10,7 +10,7 @@ use lib.Seq.{drop-cons}
 use Rattle.meaning.specs.declared.Limits.{Limits}
 use Rattle.meaning.specs.Lists.{any, filter, upFrom, between, sum, sumℤ, Every}
 use Rattle.meaning.specs.Model.{Instance, Truck, Stack, truckNumbered}
-use Rattle.meaning.specs.Measures.{usedBy, supplierOrder, sm, lever, stacksAtDeparture}
+use Rattle.meaning.specs.Measures.{supplierOrder, sm, lever}
 use Rattle.meaning.specs.Rules.{counts}
 use Rattle.meaning.specs.Table.{instanceIn, stacksIn}
 use Rattle.meaning.proofs.Lists.{every-reads, in-upFrom}
@@ -19,12 +19,11 @@ use Rattle.meaning.proofs.Permute.{sum-perm}
 use Rattle.table.specs.Filled.{Filled, TruckNumber, noStack}
 use Rattle.table.proofs.Access.{stacks-in, truck-in, per-entry-most, stack-weight}
 use Rattle.table.proofs.Bounds.{truck-most}
-use Rattle.visits.specs.Visits.{visitAt, visited, block, HoldsRows, OneTruck}
+use Rattle.visits.specs.Visits.{visitAt, visited, HoldsRows, OneTruck}
 use Rattle.visits.specs.declared.Block.{Block}
 use Rattle.visits.proofs.Order.{visited-length, visited-at, visited-perm}
 use Rattle.visits.proofs.Reading.{word-is, word-most}
-use Rattle.visits.proofs.UsedTrucks.{block-used, all-on}
-use Rattle.axles.specs.Weights.{placesFrom, placesOf, isOn, onAt, weightOf, leverBy, leverAt, leversOf, BoundedRows, axleData, BoundedAxles}
+use Rattle.axles.specs.Weights.{placesFrom, isOn, weightOf, leverBy, leverAt, leversOf, BoundedRows, axleData, BoundedAxles}
 
 -- ---- lists of places
 map-if : {A B : Type 0} (f : A → B) (b : Bool) (a : A) (l : List A) → map f (cond b (a ∷ l) l) ≡ cond b (f a ∷ map f l) (map f l)

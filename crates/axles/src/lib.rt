@@ -2,7 +2,7 @@
 // Levers are signed: a stack whose middle lies behind the rear axle counts negative. Nothing is divided.
 ghost use mathlib.Core.Path.{_≡_};
 ghost use mathlib.Core.Bool.{cond};
-ghost use Prim.Native.Nat.{_+_, _*_, _≤_, _<_};
+ghost use Prim.Native.Nat.{_+_, _*_, _≤_};
 ghost use lib.IntN.{pos, natAbs};
 ghost use lib.ListN.{length};
 ghost use Rattle.meaning.specs.Lists.{any};
@@ -85,15 +85,15 @@ pub fn lever_by(weight: u32, x: u32, xe: u32, twice: u32) -> i64
     (weight as i64) * ((twice as i64) - (x as i64) - (xe as i64))
 }
 
-// What stacks bring to the axles: their weight and their levers.
-struct Load {
+// What stacks bring together: their weight and their levers.
+struct Sums {
     weight: u64,
     levers: i64,
 }
 
-// What the stack at place k brings at a departure: nothing where it is not on. Its lever is worked out first, so that there is no branch:
-// which stacks are on has no pattern.
-fn load_of(rows: &[u32], departure: u32, twice: u32, k: usize) -> Load
+// The terms of the stack at place k in both sums: nothing where it is not on. Its lever is worked out first, so that the sum does not
+// branch: which stacks are on has no pattern that a processor could foresee.
+fn term_of(rows: &[u32], departure: u32, twice: u32, k: usize) -> Sums
     requires { ⌜ (16 * k + 16 ≤ length (now rows)) × BoundedRow (now rows) k × (twice ≤ 80000) ⌝ }
     ensures { λ r. ⌜ (r .weight ≡ cond (isOn (now (rows .entry)) departure k) (weightAt (now (rows .entry)) k) 0)
         × (r .levers ≡ cond (isOn (now (rows .entry)) departure k) (leverAt (now (rows .entry)) twice k) (pos 0)) ⌝ }
@@ -102,19 +102,19 @@ fn load_of(rows: &[u32], departure: u32, twice: u32, k: usize) -> Load
     let x = row_word(rows, k, row::X);
     let levers = lever_by(weight, x, row_word(rows, k, row::XE), twice);
     if is_on(rows, departure, k) {
-        return Load {
+        return Sums {
             weight: weight as u64,
             levers,
         };
     }
-    Load {
+    Sums {
         weight: 0,
         levers: 0,
     }
 }
 
-// What the stacks that are on at a departure bring together.
-fn load_on(rows: &[u32], on: Block, departure: u32, twice: u32) -> Load
+// Both sums of the stacks that are on at a departure.
+fn sums_on(rows: &[u32], on: Block, departure: u32, twice: u32) -> Sums
     requires { ⌜ BoundedRows (now rows) on × (twice ≤ 80000) ⌝ }
     ensures { λ r. ⌜ (r .weight ≡ weightOf (now (rows .entry)) (onAt (now (rows .entry)) departure on))
         × (r .levers ≡ leversOf (now (rows .entry)) twice (onAt (now (rows .entry)) departure on)) ⌝ }
@@ -125,11 +125,11 @@ fn load_on(rows: &[u32], on: Block, departure: u32, twice: u32) -> Load
     let mut k = on.end;
     while start < k {
         k -= 1;
-        let one = load_of(rows, departure, twice, k);
-        weight = one.weight + weight;
-        levers = one.levers + levers;
+        let term = term_of(rows, departure, twice, k);
+        weight = term.weight + weight;
+        levers = term.levers + levers;
     }
-    Load { weight, levers }
+    Sums { weight, levers }
 }
 
 // ---- the axles
@@ -148,8 +148,8 @@ struct AxleData {
     twice: u32, // 2A: twice the distance from the trailer's front end to the rear axle
 }
 
-// Reads it; once for a used truck.
-fn axle_data(t: &[u32], limits: Limits, truck: u32) -> AxleData
+// Of a truck. It is read once for a used truck, and not at each departure.
+fn read_axle_data(t: &[u32], limits: Limits, truck: u32) -> AxleData
     requires { ⌜ Filled limits (now t) × TruckNumber (instanceIn limits (now t)) truck ⌝ }
     ensures { λ r. ⌜ r ≡ axleData (truckNumbered (instanceIn limits (now (t .entry))) truck) ⌝ }
 {
@@ -209,16 +209,16 @@ struct Exceeded {
     rear: bool, // 28
 }
 
-// W2: which axles do not hold at a departure, if it counts. Most axles hold, so this is asked only where one does not.
+// W2: which axles do not hold at a departure that counts. Most axles hold, so whether it counts is asked only where one does not.
 fn exceeded_axles(rows: &[u32], on: Block, departure: u32, axles: AxleData) -> Exceeded
     requires { ⌜ BoundedRows (now rows) on × BoundedAxles axles ⌝ }
     ensures { λ r. ⌜ (r .middle ≡ exceeds middleUnder (now (rows .entry)) on axles departure)
         × (r .rear ≡ exceeds rearUnder (now (rows .entry)) on axles departure) ⌝ }
 {
-    let load = load_on(rows, on, departure, axles.twice);
-    let h = moment(load.levers, axles);
+    let sums = sums_on(rows, on, departure, axles.twice);
+    let h = moment(sums.levers, axles);
     let middle = middle_holds(h, axles);
-    let rear = rear_holds(h, load.weight, axles);
+    let rear = rear_holds(h, sums.weight, axles);
     if middle & rear {
         return Exceeded {
             middle: false,
@@ -234,7 +234,7 @@ fn exceeded_axles(rows: &[u32], on: Block, departure: u32, axles: AxleData) -> E
 
 // ---- the places
 
-// The lowest places of a used truck where its rules are broken: overload is its truck and copy, an axle's besides the lowest departure.
+// The lowest places where the rules on the weight of a used truck are broken.
 pub struct WeightPlaces {
     pub overload: Found, // 26
     pub middle: Found, // 27
@@ -250,7 +250,7 @@ pub fn truck_weights(t: &[u32], limits: Limits, rows: &[u32], on: Block) -> Weig
     let truck = row_word(rows, start, row::TRUCK);
     let copy = row_word(rows, start, row::COPY);
     let within = total_weight(rows, on) <= (truck_field(t, limits, truck, LOAD_LIMIT) as u64);
-    let axles = axle_data(t, limits, truck);
+    let axles = read_axle_data(t, limits, truck);
     let list = suppliers(t, limits, truck);
     let mut middle = Found::Nothing;
     let mut rear = Found::Nothing;

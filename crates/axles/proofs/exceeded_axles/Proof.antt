@@ -14,19 +14,19 @@ use Rattle.axles.proofs.exceeded_axles.Statement.{statement}
 use Rattle.axles.proofs.exceeded_axles.Tie as tie
 
 -- the levers, and H
-levers-are : (c : tie.After-load-on) →
+levers-are : (c : tie.After-sums-on) →
     let a = c .before .before .args in
-    toZ w64 (ofZ w64 (c .load-on .result .levers)) ≡ leversOf (a .rows .now) (a .axles .twice) (onAt (a .rows .now) (a .departure) (a .on))
-levers-are c = let fits : SFits w64 (c .load-on .result .levers) = search needs in stored fits (c .load-on .ensures .1)
+    toZ w64 (ofZ w64 (c .sums-on .result .levers)) ≡ leversOf (a .rows .now) (a .axles .twice) (onAt (a .rows .now) (a .departure) (a .on))
+levers-are c = let fits : SFits w64 (c .sums-on .result .levers) = search needs in stored fits (c .sums-on .ensures .1)
 
 moment-is : (c : tie.After-moment) →
     let a = c .before .before .before .before .args in
     toZ w64 (ofZ w64 (c .moment .result)) ≡ momentBy (leversOf (a .rows .now) (a .axles .twice) (onAt (a .rows .now) (a .departure) (a .on))) (a .axles)
 moment-is c =
-    let load = c .before .before in
-    let a = load .before .before .args in
+    let sums = c .before .before in
+    let a = sums .before .before .args in
     let fits : SFits w64 (c .moment .result) = search needs in
-    stored fits (c .moment .ensures .0 ∙ ap (λ (z : ℤ). momentBy z (a .axles)) (levers-are load))
+    stored fits (c .moment .ensures .0 ∙ ap (λ (z : ℤ). momentBy z (a .axles)) (levers-are sums))
 
 -- what the tests say
 held : (c : tie.After-rear-holds) →
@@ -37,20 +37,20 @@ held : (c : tie.After-rear-holds) →
 held c =
     let middle = c .before in
     let moment = middle .before in
-    let load = moment .before .before in
-    let axles = load .before .before .args .axles in (
+    let sums = moment .before .before in
+    let axles = sums .before .before .args .axles in (
       middle .middle-holds .ensures ∙ ap (λ (h : ℤ). middleHolds h axles) (moment-is moment),
-      c .rear-holds .ensures ∙ ap₂ (λ (h : ℤ) w. rearHolds h w axles) (moment-is moment) (load .load-on .ensures .0),
+      c .rear-holds .ensures ∙ ap₂ (λ (h : ℤ) w. rearHolds h w axles) (moment-is moment) (sums .sums-on .ensures .0),
     )
 
-load-on-requires : tie.Need-load-on-requires
-load-on-requires c κs = search needs
+sums-on-requires : tie.Need-sums-on-requires
+sums-on-requires c κs = search needs
 
 moment-requires : tie.Need-moment-requires
 moment-requires c κs =
-    let load = c .before in
-    let s = load .before .before in
-    (rw (levers-are load) (levers-size (s .pre .0) (s .args .departure) (s .args .on .start) (s .pre .0 .ordered) (s .args .axles .twice) (s .pre .1 .twice)), s .pre .1)
+    let sums = c .before in
+    let s = sums .before .before in
+    (rw (levers-are sums) (levers-size (s .pre .0) (s .args .departure) (s .args .on .start) (s .pre .0 .ordered) (s .args .axles .twice) (s .pre .1 .twice)), s .pre .1)
 
 middle-holds-requires : tie.Need-middle-holds-requires
 middle-holds-requires c κs = search needs
@@ -58,11 +58,11 @@ middle-holds-requires c κs = search needs
 rear-holds-requires : tie.Need-rear-holds-requires
 rear-holds-requires c κs =
     let moment = c .before in
-    let load = moment .before .before in
-    let s = load .before .before in
+    let sums = moment .before .before in
+    let s = sums .before .before in
     let fits : SFits w64 (moment .moment .result) = search needs in (
       rw (toZ-ofZ {w = w64} fits) (moment .moment .ensures .1),
-      rw (load .load-on .ensures .0) (weight-size (s .pre .0) (s .args .departure) (s .args .on .start) (s .pre .0 .ordered)),
+      rw (sums .sums-on .ensures .0) (weight-size (s .pre .0) (s .args .departure) (s .args .on .start) (s .pre .0 .ordered)),
       s .pre .1,
     )
 
@@ -86,7 +86,7 @@ pub exceeded-axles-spec : {M : Type 1} → statement M
 exceeded-axles-spec =
     tie.close
     (tie.spec
-    load-on-requires
+    sums-on-requires
     moment-requires
     middle-holds-requires
     rear-holds-requires

@@ -49,8 +49,8 @@ truck-field-requires c κs =
 cast-within : tie.Need-cast-within Inv-loop μ-loop
 cast-within c = search needs
 
-axle-data-requires : tie.Need-axle-data-requires Inv-loop μ-loop
-axle-data-requires c κs =
+read-axle-data-requires : tie.Need-read-axle-data-requires Inv-loop μ-loop
+read-axle-data-requires c κs =
     let truck = c .before .before .before in
     (truck .before .before .before .pre .0 .filled, known truck .1)
 
@@ -67,7 +67,7 @@ loop-holds c =
     let axles = c .before in
     let truck = axles .before .before .before .before in
     let s = truck .before .before .before in
-    (rows-bounded (s .pre .0) (s .pre .1), rw (axles .axle-data .ensures) (axles-bounded (s .pre .0 .filled) (known truck .1)), axle-start, axle-start)
+    (rows-bounded (s .pre .0) (s .pre .1), rw (axles .read-axle-data .ensures) (axles-bounded (s .pre .0 .filled) (known truck .1)), axle-start, axle-start)
 
 exceeded-axles-requires : tie.Need-exceeded-axles-requires Inv-loop μ-loop
 exceeded-axles-requires c κs = search needs
@@ -120,7 +120,7 @@ returns c =
     let s = truck .before .before .before in
     let inv = end .before .loop .inv in
     let same-copy = copy .row-word2 .ensures ∙ word-is (s .pre .0) (s .args .on .start) (omega (arith, s .pre .1 .some, s .pre .1 .within)) 3 (omega arith) in
-    lowest-are (s .pre .0) (s .pre .1) (λ z. record { truck = known truck .0 z; copy = same-copy z }) (axles .axle-data .ensures)
+    lowest-are (s .pre .0) (s .pre .1) (λ z. record { truck = known truck .0 z; copy = same-copy z }) (axles .read-axle-data .ensures)
     (ap length (suppliers .suppliers .ensures .0)) (weight .total-weight .ensures) (limit .truck-field .ensures .0) (c .place-if3 .ensures)
     (inv .2) (inv .3) (end .loop-test .left)
 
@@ -135,7 +135,7 @@ truck-weights-spec =
     total-weight-requires
     truck-field-requires
     cast-within
-    axle-data-requires
+    read-axle-data-requires
     suppliers-requires
     cast-departure
     loop-holds

@@ -6,53 +6,53 @@ use mir.Syntax.{w64}
 use mir.Val.{SFits, toZ, ofZ}
 use mir.Facts.{toZ-ofZ}
 use Rattle.axles.proofs.Signed.{in-range, stored}
-use Rattle.axles.proofs.Places.{LoadFrom, load-start, load-more, load-end, weight-size, levers-size}
+use Rattle.axles.proofs.Places.{SumsFrom, sums-start, sums-more, sums-end, weight-size, levers-size}
 use borrow.Author.Needs.{needs}
-use Rattle.axles.proofs.load_on.Statement.{statement}
-use Rattle.axles.proofs.load_on.Tie as tie
+use Rattle.axles.proofs.sums_on.Statement.{statement}
+use Rattle.axles.proofs.sums_on.Tie as tie
 
 abbrev Inv-loop : tie.InvT-loop
 Inv-loop rows departure twice start weight₀ levers₀ k₀ weight levers k =
-    LoadFrom rows departure twice start k k₀ weight (toZ w64 levers)
+    SumsFrom rows departure twice start k k₀ weight (toZ w64 levers)
 
 abbrev μ-loop : tie.MeasureT-loop
 μ-loop rows departure twice start weight₀ levers₀ k₀ weight levers k = k
 
 -- both sums after a turn
-more : (c : tie.After-load-of Inv-loop μ-loop) →
+more : (c : tie.After-term-of Inv-loop μ-loop) →
     let l = c .before .before in
     let a = l .before .before .args in
-    LoadFrom (a .rows .now) (a .departure) (a .twice) (a .on .start) (l .loop .k - 1) (a .on .end) (c .load-of .result .weight + l .loop .weight)
-    (toZ w64 (ofZ w64 (c .load-of .result .levers)) +ℤ toZ w64 (l .loop .levers))
+    SumsFrom (a .rows .now) (a .departure) (a .twice) (a .on .start) (l .loop .k - 1) (a .on .end) (c .term-of .result .weight + l .loop .weight)
+    (toZ w64 (ofZ w64 (c .term-of .result .levers)) +ℤ toZ w64 (l .loop .levers))
 more c =
     let inside = c .before in
-    let fits : SFits w64 (c .load-of .result .levers) = search needs in
-    load-more (inside .before .loop .inv) (inside .loop-test .taken) (c .load-of .ensures .0) (stored fits (c .load-of .ensures .1))
+    let fits : SFits w64 (c .term-of .result .levers) = search needs in
+    sums-more (inside .before .loop .inv) (inside .loop-test .taken) (c .term-of .ensures .0) (stored fits (c .term-of .ensures .1))
 
 loop-holds : tie.Need-loop-holds Inv-loop μ-loop
-loop-holds c = load-start (c .before .pre .0 .ordered)
+loop-holds c = sums-start (c .before .pre .0 .ordered)
 
 sub-k : tie.Need-sub-k Inv-loop μ-loop
 sub-k c = search needs
 
-load-of-requires : tie.Need-load-of-requires Inv-loop μ-loop
-load-of-requires c κs =
+term-of-requires : tie.Need-term-of-requires Inv-loop μ-loop
+term-of-requires c κs =
     let l = c .before in
     let s = l .before .before in
     (search needs, s .pre .0 .each (l .loop .k - 1) (omega (arith, l .loop .inv .weight .upto)), s .pre .1)
 
 add-weight : tie.Need-add-weight Inv-loop μ-loop
 add-weight c =
-    let one = c .before in
-    let s = one .before .before .before .before in
-    let m = more one .weight in
+    let term = c .before in
+    let s = term .before .before .before .before in
+    let m = more term .weight in
     omega (arith, m .is, weight-size (s .pre .0) (s .args .departure) _ (m .upto))
 
 add-levers : tie.Need-add-levers Inv-loop μ-loop
 add-levers c =
-    let one = c .before .before .before in
-    let s = one .before .before .before .before in
-    let m = more one .levers in
+    let term = c .before .before .before in
+    let s = term .before .before .before .before in
+    let m = more term .levers in
     rw (m .is) (in-range _ (levers-size (s .pre .0) (s .args .departure) _ (m .upto) (s .args .twice) (s .pre .1)) tt)
 
 loop-less : tie.Need-loop-less Inv-loop μ-loop
@@ -63,17 +63,17 @@ loop-again c =
     rw (toZ-ofZ {w = w64} (add-levers c)) (more (c .before .before .before))
 
 returns : tie.Need-returns Inv-loop μ-loop
-returns c = load-end (c .before .loop .inv) (c .loop-test .left)
+returns c = sums-end (c .before .loop .inv) (c .loop-test .left)
 
-pub load-on-spec : {M : Type 1} → statement M
-load-on-spec =
+pub sums-on-spec : {M : Type 1} → statement M
+sums-on-spec =
     tie.close
     (tie.spec
     Inv-loop
     μ-loop
     loop-holds
     sub-k
-    load-of-requires
+    term-of-requires
     add-weight
     add-levers
     loop-less

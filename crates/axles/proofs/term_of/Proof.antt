@@ -4,8 +4,8 @@ use borrow.Author.Needs.{needs}
 use mir.Syntax.{w64}
 use mir.Val.{SFits}
 use Rattle.axles.proofs.Signed.{stored}
-use Rattle.axles.proofs.load_of.Statement.{statement}
-use Rattle.axles.proofs.load_of.Tie as tie
+use Rattle.axles.proofs.term_of.Statement.{statement}
+use Rattle.axles.proofs.term_of.Tie as tie
 
 row-word-requires : tie.Need-row-word-requires
 row-word-requires c κs = search needs
@@ -38,8 +38,8 @@ returns c =
 returns-2 : tie.Need-returns-2
 returns-2 c = rw (← c .before .is-on .ensures, c .if1 .left) (refl, refl)
 
-pub load-of-spec : {M : Type 1} → statement M
-load-of-spec =
+pub term-of-spec : {M : Type 1} → statement M
+term-of-spec =
     tie.close
     (tie.spec
     row-word-requires

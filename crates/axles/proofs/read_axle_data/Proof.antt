@@ -1,8 +1,8 @@
 -- The fields of the truck's line.
 use mathlib.Core.Path.{refl}
 use borrow.Author.Needs.{needs}
-use Rattle.axles.proofs.axle_data.Statement.{statement}
-use Rattle.axles.proofs.axle_data.Tie as tie
+use Rattle.axles.proofs.read_axle_data.Statement.{statement}
+use Rattle.axles.proofs.read_axle_data.Tie as tie
 
 truck-field-requires : tie.Need-truck-field-requires
 truck-field-requires c κs = search needs
@@ -65,8 +65,8 @@ returns c =
     )
     refl
 
-pub axle-data-spec : {M : Type 1} → statement M
-axle-data-spec =
+pub read-axle-data-spec : {M : Type 1} → statement M
+read-axle-data-spec =
     tie.close
     (tie.spec
     truck-field-requires
