@@ -7,7 +7,9 @@ use Prim.Native.Nat.{ℕ, _+_, _≤_}
 use native.Mathlib.Omega.{arith}
 use lib.ListN.{length, drop, drop-of-length-le}
 use Rattle.meaning.specs.declared.Place.{Place}
+use Rattle.meaning.specs.declared.Limits.{Limits}
 use Rattle.meaning.specs.Model.{Instance, Stack}
+use Rattle.meaning.specs.Table.{instanceIn, stacksIn}
 use Rattle.meaning.specs.Rules.{pairPlaces, singlePair, stackPlaces, truckPlaces, departurePlaces, braced, noAmount, withinLoadLimit, middleAxleHolds, rearAxleHolds}
 use Rattle.meaning.specs.Measures.{usedBy}
 use Rattle.meaning.specs.Verdict.{transportCost}
@@ -27,13 +29,16 @@ use Rattle.rules.specs.declared.PairRule.the-variants.{SecondPair, Overlap, Ord
 use Rattle.rules.specs.declared.TruckRule.{TruckRule}
 use Rattle.rules.specs.declared.TruckRule.the-variants.{Unbraced, Overload, Middle, Rear}
 use Rattle.rules.specs.LoadingRules.{pairTest, truckRulePlaces}
-use Rattle.visits.specs.Visits.{visitAt, visited, block, OneTruck, Parted}
+use Rattle.table.specs.Filled.{Filled}
+use Rattle.visits.specs.Visits.{visitAt, visited, block, HoldsRows, OneTruck, Parted, RunBefore}
+use Rattle.visits.proofs.Reading.{run-before}
 use Rattle.visits.proofs.Order.{visited-length, visited-perm}
 use Rattle.visits.proofs.UsedTrucks.{block-split, block-apart}
 use Rattle.judging.specs.declared.Findings.{Findings}
 use Rattle.placement.specs.Placed.{PlacedStacks}
+use Rattle.axles.specs.Weights.{LowestPlaces}
 use Rattle.judging.specs.declared.Asked.{Asked}
-use Rattle.judging.specs.Judging.{isAsked, Tells, joined, noFindings, WeightsOf, TellsAsked, CountsTrucks}
+use Rattle.judging.specs.Judging.{isAsked, Tells, joined, noFindings, TellsAsked, CountsTrucks}
 use Rattle.judging.proofs.Cost.{Counted, counted-start, counted-more, counted-end}
 use Rattle.judging.proofs.Apart.{Apart, pairs-apart, truck-rule-apart}
 
@@ -178,7 +183,7 @@ module _ {asked : Asked} {i : Instance} {p : List Stack} where
 -- ---- the answers of one used truck, rule by rule
 pub truck-told : {asked : Asked} (i : Instance) (p : List Stack) (f : Findings)
     → (asked .«single_pair» ≡ true → (f .«single_pair» ≡ true) ↔ (pairPlaces singlePair i p ≡ []))
-    → (asked .placement ≡ true → PlacedStacks i p (f .placement)) → (asked .weights ≡ true → WeightsOf i p (f .weights))
+    → (asked .placement ≡ true → PlacedStacks i p (f .placement)) → (asked .weights ≡ true → LowestPlaces i p (f .weights))
     → (rule : Rule) → isAsked asked rule ≡ true → Tells rule i p f
 truck-told i p f s q w (OfStacks rule) e = tt
 truck-told i p f s q w (OfPairs SecondPair) e = s e
@@ -188,3 +193,13 @@ truck-told i p f s q w (OfTrucks Unbraced) e = q e .unbraced
 truck-told i p f s q w (OfTrucks Overload) e = w e .overload
 truck-told i p f s q w (OfTrucks Middle) e = w e .middle
 truck-told i p f s q w (OfTrucks Rear) e = w e .rear
+
+-- ---- what the walk leans on
+-- the used truck before `end`, and the walk so far
+pub one-truck : {m : Limits} {t rows : List ℕ} {asked : Asked} {f : Findings} {start end count cost : ℕ} → HoldsRows m t rows
+    → Told asked (instanceIn m t) (stacksIn m t) end f count cost → RunBefore rows start end → OneTruck (stacksIn m t) start end × Parted (stacksIn m t) start
+one-truck held h run = run-before held (omega (arith, h .counted .within)) run
+
+-- each stack takes eight words of the table
+pub few-stacks : {m : Limits} {t : List ℕ} → Filled m t → length (stacksIn m t) ≤ 2097152
+few-stacks h = omega (arith, h .bounded .words, h .range .stackCount)

@@ -1,5 +1,5 @@
 -- The verdict by the loading rules: from what the stacks and the used trucks tell to the first broken rule.
-use mathlib.Core.Path.{_≡_, refl, sym, _∙_}
+use mathlib.Core.Path.{_≡_, refl, sym, ap, _∙_}
 use mathlib.Core.Logic.{_↔_, _⊎_, inl, inr, ⊎-elim}
 use mathlib.Core.Bool.{Bool, true, false, not}
 use mathlib.Core.List.{List, []}
@@ -8,7 +8,11 @@ use native.Mathlib.Decide.{decLe}
 use native.Mathlib.Nat.{eq-or-lt-of-le}
 use native.Mathlib.Omega.{arith}
 use borrow.Author.Tests.{not-true, not-false}
+use lib.ListN.{getD}
 use Rattle.meaning.specs.declared.Place.{Place}
+use Rattle.meaning.specs.declared.Answer.{Answer}
+use Rattle.meaning.specs.Rules.{loadingRules}
+use Rattle.meaning.specs.Verdict.{refusal, firstBroken}
 use Rattle.meaning.specs.Model.{Instance, Stack}
 use Rattle.meaning.proofs.Tests.{true≢false, fails}
 use Rattle.search.specs.Lowest.{lowestIn}
@@ -18,13 +22,17 @@ use Rattle.search.proofs.Lowest.{none-listed}
 use Rattle.rules.specs.declared.Rule.{Rule}
 use Rattle.rules.specs.declared.Rule.the-variants.{OfStacks, OfPairs, OfTrucks}
 use Rattle.rules.specs.declared.PairRule.{PairRule}
+use Rattle.rules.specs.declared.StackRule.{StackRule}
 use Rattle.rules.specs.declared.TruckRule.{TruckRule}
-use Rattle.rules.specs.LoadingRules.{rulePlaces, onStack, ruleCount, ruleAt, KeptBelow}
+use Rattle.rules.specs.LoadingRules.{rulePlaces, onStack, verdicts, ruleCount, ruleAt, KeptBelow}
+use Rattle.rules.proofs.Ranks.{broken-at-rank}
 use Rattle.stackrules.specs.declared.Breach.{Breach}
 use Rattle.stackrules.specs.StackRules.{FirstOnStacks}
 use Rattle.judging.specs.declared.Asked.{Asked}
 use Rattle.judging.specs.declared.Findings.{Findings}
-use Rattle.judging.specs.Judging.{isAsked, AskedBelow, truckFound, nothing, keptBy, Tells, TellsAsked, FirstRank, placeIn}
+use Rattle.judging.specs.declared.UsedTrucks.{UsedTrucks}
+use Rattle.judging.specs.declared.Survey.{Survey}
+use Rattle.judging.specs.Judging.{isAsked, AskedBelow, truckFound, nothing, keptBy, Tells, TellsAsked, FirstRank, CountsTrucks, SurveyOf, placeIn}
 
 -- ---- what a search found
 found-none : (f : Found) → nothing f ≡ true → Nothing ≡ f
@@ -38,12 +46,12 @@ found-some Nothing e = absurd (true≢false e)
 pub kept-told : {f g : Found} {none : Bool} → f ≡ g → (none ≡ true) ↔ (f ≡ Nothing) → none ≡ nothing g
 kept-told {f} {g} {none} e h = by-kind g e
   where
-    by-kind : (g : Found) → f ≡ g → none ≡ nothing g
-    by-kind (At p) e = fails none (λ t. absurd (never p (sym e ∙ h .0 t)))
-    by-kind Nothing e = h .1 e
-
     never : (p : Place) → At p ≡ Nothing → ⊥
     never p e = let z : _≡_ {A = ℕ} 0 1 = cc in omega arith
+
+    by-kind : (g : Found) → f ≡ g → none ≡ nothing g
+    by-kind (At p) e = fails none (λ t. never p (sym e ∙ h .0 t))
+    by-kind Nothing e = h .1 e
 
 -- a search that is made where a rule is not kept finds a place
 pub lowest-broken : {f : Found} {places : List Place} {kept : Bool} → f ≡ lowestIn places → (kept ≡ true) ↔ (places ≡ []) → kept ≡ false
@@ -89,7 +97,7 @@ module _ {f : Findings} {upto : ℕ} where
 module _ {i : Instance} {p : List Stack} {b : Breach} {asked : Asked} {f : Findings} {rank : ℕ} (first : FirstOnStacks i p b)
     (covers : AskedBelow (b .rank) asked) (tells : TellsAsked asked i p f) (r : FirstRank f (b .rank) rank) where
   -- no rule below it lists a place
-  pub kept-below : KeptBelow i p rank
+  kept-below : KeptBelow i p rank
   kept-below = record { each = λ k below. go k below (covers .each k (omega (arith, r .within))) }
     where
       go : (k : ℕ) → k < rank → (onStack (ruleAt k) ≡ true) ⊎ (isAsked asked (ruleAt k) ≡ true) → rulePlaces (ruleAt k) i p ≡ []
@@ -97,7 +105,7 @@ module _ {i : Instance} {p : List Stack} {b : Breach} {asked : Asked} {f : Findi
       go k below (inr a) = told-kept asked i p f (ruleAt k) a (tells .each (ruleAt k) a) (r .kept k below)
 
   -- where a rule on single stacks is broken at that rank, it is the first of them
-  pub on-stacks : rank < ruleCount → onStack (ruleAt rank) ≡ true → At (b .place) ≡ lowestIn (rulePlaces (ruleAt rank) i p)
+  on-stacks : rank < ruleCount → onStack (ruleAt rank) ≡ true → At (b .place) ≡ lowestIn (rulePlaces (ruleAt rank) i p)
   on-stacks inside s = ⊎-elim here (λ less. absurd (before (ruleAt rank) s (r .broken less))) (eq-or-lt-of-le (r .within))
     where
       here : rank ≡ b .rank → At (b .place) ≡ lowestIn (rulePlaces (ruleAt rank) i p)
@@ -109,22 +117,43 @@ module _ {i : Instance} {p : List Stack} {b : Breach} {asked : Asked} {f : Findi
       before (OfTrucks rule) s e = true≢false (sym s)
 
   -- any other comes before it, and the used trucks tell of it
-  module _ (inside : rank < ruleCount) (other : onStack (ruleAt rank) ≡ false) where
-    below : rank < b .rank
-    below = ⊎-elim (λ e. absurd (true≢false (sym (first .broken (rw (← e) inside) .0) ∙ rw (← e) other))) (λ less. less) (eq-or-lt-of-le (r .within))
+  told : rank < ruleCount → onStack (ruleAt rank) ≡ false → Tells (ruleAt rank) i p f × (keptBy (ruleAt rank) f ≡ false)
+  told inside other =
+      let below : rank < b .rank =
+      ⊎-elim (λ e. absurd (true≢false (sym (first .broken (rw (← e) inside) .0) ∙ rw (← e) other))) (λ less. less) (eq-or-lt-of-le (r .within))
+      in
+      (⊎-elim (λ s. absurd (true≢false (sym s ∙ other))) (λ a. tells .each (ruleAt rank) a) (covers .each rank below), r .broken below)
 
-    pub told : Tells (ruleAt rank) i p f
-    told = ⊎-elim (λ s. absurd (true≢false (sym s ∙ other))) (λ a. tells .each (ruleAt rank) a) (covers .each rank below)
+  pub surveyed : {used : UsedTrucks} → CountsTrucks i p (used .count) (used .cost)
+      → SurveyOf i p (record { rank = rank; first = b; found = f; used = used })
+  surveyed counts =
+      record { within = omega (arith, r .within, first .upto); kept = kept-below; onStacks = on-stacks; tells = told; used = counts }
 
-    pub told-broken : keptBy (ruleAt rank) f ≡ false
-    told-broken = r .broken below
+pub rank-inside : {i : Instance} {p : List Stack} {s : Survey} → SurveyOf i p s → (s .rank ≡ ruleCount → ⊥) → s .rank < ruleCount
+rank-inside h some = omega (arith, h .within, some)
 
 -- by the kind of the rule at that rank
-module _ (i : Instance) (p : List Stack) (f : Findings) where
-  pub pair-broken : {rule : Rule} (pair : PairRule) {found : Found} → rule ≡ OfPairs pair → Tells rule i p f → keptBy rule f ≡ false
-      → found ≡ lowestIn (rulePlaces (OfPairs pair) i p) → At (placeIn found) ≡ lowestIn (rulePlaces rule i p)
-  pair-broken pair e h broken is = rw e (lowest-broken is (rw e at h) (rw e at broken))
+module _ (i : Instance) (p : List Stack) {s : Survey} (h : SurveyOf i p s) (inside : s .rank < ruleCount) where
+  abbrev Lowest : Place → Type 0
+  Lowest q = At q ≡ lowestIn (rulePlaces (ruleAt (s .rank)) i p)
 
-  pub truck-broken : {rule : Rule} (each : TruckRule) {found : Found} → rule ≡ OfTrucks each → Tells rule i p f → keptBy rule f ≡ false
-      → found ≡ truckFound each f → At (placeIn found) ≡ lowestIn (rulePlaces rule i p)
-  truck-broken each {found} e h broken is = rw e (rw (← is) at (found-some (truckFound each f) (rw e at broken) ∙ (rw e at h)))
+  pub refused : (kept : Answer) {a : Answer} {verdict : ℕ} {q : Place} → a ≡ refusal verdict q → verdict ≡ getD verdicts (s .rank) 0 → Lowest q
+      → a ≡ firstBroken loadingRules i p kept
+  refused kept {q = q} ea ev low = ea ∙ ap (λ v. refusal v q) ev ∙ broken-at-rank kept (s .rank) q inside (h .kept) low
+
+  pub stack-broken : {rule : Rule} (each : StackRule) → rule ≡ ruleAt (s .rank) → rule ≡ OfStacks each → Lowest (s .first .place)
+  stack-broken each e k = h .onStacks inside (rw (← e, k) refl)
+
+  pub pair-broken : {rule : Rule} (pair : PairRule) {f : Found} → rule ≡ ruleAt (s .rank) → rule ≡ OfPairs pair → f ≡ lowestIn (rulePlaces (OfPairs pair) i p)
+      → Lowest (placeIn f)
+  pair-broken pair {f} e k is =
+      let kind : ruleAt (s .rank) ≡ OfPairs pair = sym e ∙ k in
+      let t = h .tells inside (rw kind refl) in
+      rw kind (lowest-broken is (rw kind at (t .0)) (rw kind at (t .1)))
+
+  pub truck-broken : {rule : Rule} (each : TruckRule) {f : Found} → rule ≡ ruleAt (s .rank) → rule ≡ OfTrucks each → f ≡ truckFound each (s .found)
+      → Lowest (placeIn f)
+  truck-broken each {f} e k is =
+      let kind : ruleAt (s .rank) ≡ OfTrucks each = sym e ∙ k in
+      let t = h .tells inside (rw kind refl) in
+      rw (kind, is) (found-some (truckFound each (s .found)) (rw kind at (t .1)) ∙ (rw kind at (t .0)))

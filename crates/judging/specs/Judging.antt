@@ -10,7 +10,6 @@ use Rattle.meaning.specs.Lists.{sum}
 use Rattle.meaning.specs.Places.{place}
 use Rattle.meaning.specs.Model.{Instance, Stack}
 use Rattle.meaning.specs.Measures.{usedTrucks}
-use Rattle.meaning.specs.Rules.{truckPlaces, departurePlaces, withinLoadLimit, middleAxleHolds, rearAxleHolds}
 use Rattle.meaning.specs.Verdict.{transportCost}
 use Rattle.search.specs.declared.Found.{Found}
 use Rattle.search.specs.declared.Found.the-variants.{At, Nothing}
@@ -21,11 +20,12 @@ use Rattle.rules.specs.declared.PairRule.{PairRule}
 use Rattle.rules.specs.declared.PairRule.the-variants.{SecondPair, Overlap, Order}
 use Rattle.rules.specs.declared.TruckRule.{TruckRule}
 use Rattle.rules.specs.declared.TruckRule.the-variants.{Unbraced, Overload, Middle, Rear}
-use Rattle.rules.specs.LoadingRules.{rulePlaces, onStack, ruleAt}
+use Rattle.rules.specs.LoadingRules.{rulePlaces, onStack, ruleCount, ruleAt, KeptBelow}
 use Rattle.placement.specs.declared.Placement.{Placement}
 use Rattle.axles.specs.declared.WeightPlaces.{WeightPlaces}
 use Rattle.judging.specs.declared.Asked.{Asked}
 use Rattle.judging.specs.declared.Findings.{Findings}
+use Rattle.judging.specs.declared.Survey.{Survey}
 
 -- ---- what is asked
 -- whether a rule is asked of the used trucks; a rule on single stacks is not
@@ -133,12 +133,6 @@ joined a b = record {
   weights = joinedWeights (a .weights) (b .weights);
 }
 
--- the lowest places of the weight rules
-pub record WeightsOf (i : Instance) (p : List Stack) (w : WeightPlaces) : Type 0 where
-  pub overload : w .overload ≡ lowestIn (truckPlaces withinLoadLimit i p)
-  pub middle : w .middle ≡ lowestIn (departurePlaces middleAxleHolds i p)
-  pub rear : w .rear ≡ lowestIn (departurePlaces rearAxleHolds i p)
-
 -- the answers on all rules that are asked
 pub record TellsAsked (asked : Asked) (i : Instance) (p : List Stack) (f : Findings) : Type 0 where
   pub each : (rule : Rule) → isAsked asked rule ≡ true → Tells rule i p f
@@ -154,6 +148,14 @@ pub record FirstRank (f : Findings) (upto rank : ℕ) : Type 0 where
   pub within : rank ≤ upto
   pub kept : (k : ℕ) → k < rank → keptBy (ruleAt k) f ≡ true
   pub broken : rank < upto → keptBy (ruleAt rank) f ≡ false
+
+-- what a survey says of the loading rules: none below its rank is broken, and the rule of that rank is
+pub record SurveyOf (i : Instance) (p : List Stack) (s : Survey) : Type 0 where
+  pub within : s .rank ≤ ruleCount
+  pub kept : KeptBelow i p (s .rank)
+  pub onStacks : s .rank < ruleCount → onStack (ruleAt (s .rank)) ≡ true → At (s .first .place) ≡ lowestIn (rulePlaces (ruleAt (s .rank)) i p)
+  pub tells : s .rank < ruleCount → onStack (ruleAt (s .rank)) ≡ false → Tells (ruleAt (s .rank)) i p (s .found) × (keptBy (ruleAt (s .rank)) (s .found) ≡ false)
+  pub used : CountsTrucks i p (s .used .count) (s .used .cost)
 
 -- the place that a search found; zeros where it found none
 abbrev pub placeIn : Found → Place

@@ -16,8 +16,9 @@ ghost use Rattle.rules.specs.declared.Rule.the-variants.{OfPairs};
 ghost use Rattle.table.specs.Filled.{Filled};
 ghost use Rattle.visits.specs.Visits.{visitAt, block, HoldsRows, OneTruck};
 ghost use Rattle.placement.specs.Placed.{TruckRows, PlacedRows};
-ghost use Rattle.judging.specs.Judging.{withPlacement, withWeights, withPairRule, withTruckRule, withRule, AskedBelow, joinedPlacement, joinedWeights, WeightsOf, TellsAsked, CountsTrucks};
-ghost use Rattle.judging.specs.Judging.{pairKept, truckFound, keptBy, FirstRank, placeIn};
+ghost use Rattle.axles.specs.Weights.{LowestPlaces};
+ghost use Rattle.judging.specs.Judging.{withPlacement, withWeights, withPairRule, withTruckRule, withRule, AskedBelow, joinedPlacement, joinedWeights, TellsAsked, CountsTrucks};
+ghost use Rattle.judging.specs.Judging.{pairKept, truckFound, keptBy, FirstRank, SurveyOf, placeIn};
 use axles::WeightPlaces;
 use axles::truck_weights;
 use costs::plan_cost;
@@ -39,6 +40,7 @@ use rules::verdict_at;
 use search::Found;
 use search::is_nothing;
 use search::lower_of;
+use stackrules::Breach;
 use stackrules::first_on_stacks;
 use stackrules::lowest_not_once;
 use table::stack_count;
@@ -205,7 +207,11 @@ fn asked_placement(
     on: Block,
     keys: &mut [u64],
     along: &mut [u32],
-) -> Placement {
+) -> Placement
+    requires { ⌜ TruckRows (now rows) on × (on .end - on .start ≤ length (now keys)) × (on .end - on .start ≤ length (now along)) ⌝ }
+    ensures placed { λ r. ⌜ (asked ≡ true → PlacedRows (now (rows .entry)) on r) ⌝ }
+    ensures lengths { λ _. ⌜ (length (now (keys .exit)) ≡ length (now (keys .entry))) × (length (now (along .exit)) ≡ length (now (along .entry))) ⌝ }
+{
     if asked {
         return truck_placement(rows, on, keys, along);
     }
@@ -219,7 +225,7 @@ fn asked_placement(
 // The weight rules on one used truck, where they are asked.
 fn asked_weights(asked: bool, t: &[u32], limits: Limits, rows: &[u32], on: Block) -> WeightPlaces
     requires { ⌜ HoldsRows limits (now t) (now rows) × OneTruck (stacksIn limits (now t)) (on .start) (on .end) ⌝ }
-    ensures { λ r. ⌜ (asked ≡ true → WeightsOf (instanceIn limits (now (t .entry)))
+    ensures { λ r. ⌜ (asked ≡ true → LowestPlaces (instanceIn limits (now (t .entry)))
         (block (stacksIn limits (now (t .entry))) (on .start) (on .end)) r) ⌝ }
 {
     if asked {
@@ -415,8 +421,40 @@ fn accept(t: &[u32], limits: Limits, used: UsedTrucks) -> Answer
     }
 }
 
-// The verdict by the loading rules, each over the whole plan before the next. The rules on single stacks are asked first, in one walk, since
-// most of them come first; of the others only those that come before the first one broken there.
+// What the stacks and the used trucks tell of the loading rules: the rank of the first that is broken, or their number.
+struct Survey {
+    rank: usize,
+    first: Breach, // the first broken rule on single stacks
+    found: Findings,
+    used: UsedTrucks,
+}
+
+// The rules on single stacks are asked first, in one walk; of the others only those that come before the first one broken there.
+fn survey_plan(
+    t: &[u32],
+    limits: Limits,
+    rows: &[u32],
+    keys: &mut [u64],
+    along: &mut [u32],
+) -> Survey
+    requires { ⌜ HoldsRows limits (now t) (now rows) × (length (stacksIn limits (now t)) ≤ length (now keys))
+        × (length (stacksIn limits (now t)) ≤ length (now along)) ⌝ }
+    ensures told { λ r. ⌜ SurveyOf (instanceIn limits (now (t .entry))) (stacksIn limits (now (t .entry))) r ⌝ }
+    ensures lengths { λ _. ⌜ (length (now (keys .exit)) ≡ length (now (keys .entry))) × (length (now (along .exit)) ≡ length (now (along .entry))) ⌝ }
+{
+    let first = first_on_stacks(t, limits, rows);
+    let trucks = ask_trucks(kinds_below(first.rank), t, limits, rows, keys, along);
+    let found = trucks.found;
+    let used = trucks.used;
+    Survey {
+        rank: first_rank(found, first.rank),
+        first,
+        found,
+        used,
+    }
+}
+
+// The verdict by the loading rules, each over the whole plan before the next. The keys and the order are scratch.
 fn judge_loading(
     t: &[u32],
     limits: Limits,
@@ -430,24 +468,21 @@ fn judge_loading(
         (acceptance (cost (instanceIn limits (now (t .entry))) (stacksIn limits (now (t .entry))))
         (length (usedTrucks (stacksIn limits (now (t .entry)))))) ⌝ }
 {
-    let first = first_on_stacks(t, limits, rows);
-    let trucks = ask_trucks(kinds_below(first.rank), t, limits, rows, keys, order);
-    let found = trucks.found;
-    let rank = first_rank(found, first.rank);
+    let told = survey_plan(t, limits, rows, keys, order);
+    let rank = told.rank;
     if rank == RULES {
-        let used = trucks.used;
+        let used = told.used;
         return accept(t, limits, used);
     }
-    let place = first.place;
+    let first = told.first;
+    let found = told.found;
     let verdict = verdict_at(rank);
     let rule = rule_at(rank);
     match rule {
-        Rule::OfStacks(_) => refuse(verdict, place),
+        Rule::OfStacks(_) => refuse(verdict, first.place),
         Rule::OfPairs(pair) => {
-            refuse(
-                verdict,
-                place_in(lowest_pair(pair, t, limits, rows, keys, order)),
-            )
+            let lowest = lowest_pair(pair, t, limits, rows, keys, order);
+            refuse(verdict, place_in(lowest))
         }
         Rule::OfTrucks(each) => refuse(verdict, place_in(truck_found(each, found))),
     }

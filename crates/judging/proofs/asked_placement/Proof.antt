@@ -1,9 +1,12 @@
+-- `judging::asked_placement`: what is not asked is not told.
+use mathlib.Core.Path.{refl, sym, _∙_}
+use Rattle.meaning.proofs.Tests.{true≢false}
 use borrow.Author.Needs.{needs}
 use Rattle.judging.proofs.asked_placement.Statement.{statement}
 use Rattle.judging.proofs.asked_placement.Tie as tie
 
 truck-placement-requires : tie.Need-truck-placement-requires
-truck-placement-requires c κs = ?
+truck-placement-requires c κs = search needs
 
 same-length : tie.Need-same-length
 same-length c = search needs
@@ -15,7 +18,7 @@ returns : tie.Need-returns
 returns c = search needs
 
 returns-2 : tie.Need-returns-2
-returns-2 c = search needs
+returns-2 c = ((λ e. absurd (true≢false (sym e ∙ c .if1 .left))), (refl, refl))
 
 pub asked-placement-spec : {M : Type 1} → statement M
 asked-placement-spec =
