@@ -12,7 +12,7 @@ use Rattle.meaning.specs.Lists.{Every}
 use Rattle.meaning.specs.Places.{lowest, lowerOf}
 use Rattle.meaning.specs.Model.{Instance, Stack}
 use Rattle.meaning.specs.Measures.{usedTrucks}
-use Rattle.meaning.specs.Rules.{Rule, rules}
+use Rattle.meaning.specs.Rules.{Rule, loadingRules, rules}
 use Rattle.meaning.specs.Verdict.{acceptance, refusal, brokenOr, firstBroken, cost, verdictOn}
 use Rattle.meaning.specs.Claims.{IsLowest, KeptBy, AcceptedExactly, FirstBroken, RefusedExactly, NoneOf1To8}
 use Rattle.meaning.proofs.Lists.{no-cons}
@@ -73,7 +73,7 @@ module _ (i : Instance) (p : List Stack) (accepted : Answer) where
   kept-or-numbered (r ∷ rs) h e = either-number (r .verdict) (lowest (r .places i p)) (firstBroken rs i p accepted) (h .0) (kept-or-numbered rs (h .1) e)
 
 -- the answer of a plan that keeps every rule
-abbrev keptAnswer : Instance → List Stack → Answer
+abbrev pub keptAnswer : Instance → List Stack → Answer
 keptAnswer i p = acceptance (cost i p) (length (usedTrucks p))
 
 pub verdict-number : (i : Instance) (p : List Stack) → NoneOf1To8 (verdictOn i p .number)
@@ -88,6 +88,11 @@ accepted-exactly i p =
       exactly = (none-broken i p (keptAnswer i p) rules numbered, λ h. ap (λ (a : Answer). a .number) (answered h));
       accepts = λ h. rw (answered h) (record { number = refl; first = refl; second = refl; third = refl; cost = refl; trucks = refl });
     }
+
+-- the same for the rules but 9
+pub loading-kept : (i : Instance) (p : List Stack) → firstBroken loadingRules i p (keptAnswer i p) .number ≡ 0 → Every (KeptBy i p) loadingRules
+unfolding rules
+loading-kept i p = none-broken i p (keptAnswer i p) loadingRules (numbered .1)
 
 -- ---- the first broken rule
 -- where not all rules are kept, one of them is the first that is not

@@ -1,13 +1,12 @@
 -- Demand 3: a readable plan is accepted exactly when its picture holds. Rule 9 and its words in the picture stand apart.
 use mathlib.Core.Logic.{_↔_}
 use mathlib.Core.List.{List, _++_}
-use Prim.Native.Nat.{ℕ}
 use Rattle.meaning.specs.declared.Limits.{Limits}
 use Rattle.meaning.specs.Lists.{Every}
 use Rattle.meaning.specs.Model.{Instance, Stack}
 use Rattle.meaning.specs.Rules.{itemRules, stackRules, placementRules, weightRules, loadingRules, rules}
 use Rattle.meaning.specs.Feasible.{LoadingFeasible, Feasible}
-use Rattle.meaning.specs.Claims.{Readable, KeptBy, LoadingKeptExactly, AcceptedWhenFeasible}
+use Rattle.meaning.specs.Claims.{KeptBy, LoadingKeptExactly, AcceptedWhenFeasible}
 use Rattle.meaning.proofs.Tests.{iff-trans}
 use Rattle.meaning.proofs.Lists.{_&_, every-append}
 use Rattle.meaning.proofs.RuleKinds.{kept-rule}
@@ -92,24 +91,21 @@ module _ (i : Instance) (p : List Stack) (formed : WellFormed i p) where
   loading-exactly : Every (KeptBy i p) loadingRules ↔ LoadingFeasible i p
   loading-exactly = iff-trans by-family (kept-holds, holds-kept)
 
-  -- rule 9 comes before the others
-  all-exactly : Every (KeptBy i p) rules ↔ Feasible i p
-  unfolding rules
-  all-exactly = (
-    (λ h. record { once = once-exactly i p .0 (h .0); loading = loading-exactly .0 (h .1) }),
-    (λ f. once-exactly i p .1 (f .once) & loading-exactly .1 (f .loading)),
-  )
-
-module _ (m : Limits) (instance plan : List ℕ) (r : Readable m instance plan) where
-  read-formed : WellFormed (r .says) (r .stacks)
-  read-formed = meets-formed m (r .says) (r .stacks) (read-meets m instance plan r)
-
 pub loading-kept-exactly : (m : Limits) → LoadingKeptExactly m
-loading-kept-exactly m instance plan r = loading-exactly (r .says) (r .stacks) (read-formed m instance plan r)
+loading-kept-exactly m instance plan r =
+    loading-exactly (r .says) (r .stacks) (meets-formed m (r .says) (r .stacks) (read-meets m instance plan r))
+
+-- with rule 9, which comes before the others
+all-exactly : (i : Instance) (p : List Stack) → Every (KeptBy i p) loadingRules ↔ LoadingFeasible i p → Every (KeptBy i p) rules ↔ Feasible i p
+unfolding rules
+all-exactly i p loading = (
+  (λ h. record { once = once-exactly i p .0 (h .0); loading = loading .0 (h .1) }),
+  (λ f. once-exactly i p .1 (f .once) & loading .1 (f .loading)),
+)
 
 pub accepted-when-feasible : (m : Limits) → AcceptedWhenFeasible m
 accepted-when-feasible m n instance plan r =
     let i = r .files .says in
     let p = r .files .stacks in
     rw (readable-answer m n instance plan r)
-    (iff-trans (accepted-exactly i p .exactly) (all-exactly i p (read-formed m instance plan (r .files))))
+    (iff-trans (accepted-exactly i p .exactly) (all-exactly i p (loading-kept-exactly m instance plan (r .files))))
