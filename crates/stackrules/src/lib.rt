@@ -56,7 +56,6 @@ use table::is_listed;
 use table::item_count;
 use table::item_field;
 use table::load;
-use table::load_count;
 use table::products;
 use table::stack_count;
 use table::stack_field;
@@ -153,7 +152,8 @@ fn supplier_visited(t: &[u32], limits: Limits, s: usize, n: u32) -> bool
     ensures { λ r. ⌜ r ≡ supplierVisited (instanceIn limits (now (t .entry))) (stackAt (stacksIn limits (now (t .entry))) s)
         (item (instanceIn limits (now (t .entry))) n) ⌝ }
 {
-    1 <= supplier_order(t, limits, s, item_field(t, limits, n, IU))
+    let truck = stack_truck(t, limits, s);
+    1 <= supplier_order(t, limits, truck, item_field(t, limits, n, IU))
 }
 
 // 13 day, I5: the truck arrives within the item's days.
@@ -172,7 +172,8 @@ fn docks_served(t: &[u32], limits: Limits, s: usize, n: u32) -> bool
     ensures { λ r. ⌜ r ≡ docksServed (instanceIn limits (now (t .entry))) (stackAt (stacksIn limits (now (t .entry))) s)
         (item (instanceIn limits (now (t .entry))) n) ⌝ }
 {
-    (1 <= supplier_dock_order(t, limits, s, n)) & (1 <= plant_dock_order(t, limits, s, n))
+    let truck = stack_truck(t, limits, s);
+    (1 <= supplier_dock_order(t, limits, truck, n)) & (1 <= plant_dock_order(t, limits, truck, n))
 }
 
 // Whether an item has the bottom item's value in a field.
@@ -297,7 +298,8 @@ fn top_heavy_place(t: &[u32], limits: Limits, rows: &[u32], k: usize) -> Found
     ensures { λ r. ⌜ r ≡ lowestIn (stackRulePlaces StackRule.TopHeavy (instanceIn limits (now (t .entry)))
         (visitAt (stacksIn limits (now (t .entry))) k ∷ [])) ⌝ }
 {
-    let above = load_sum(t, limits, stack_at(rows, k), 1, IM);
+    let items = load(t, limits, stack_at(rows, k));
+    let above = load_sum(t, limits, items, 1, IM);
     let within = above <= truck_field(t, limits, row_word(rows, k, row::TRUCK), TOP_LIMIT);
     place_if(!within, row_word(rows, k, row::NUMBER), above, 0)
 }
@@ -308,9 +310,9 @@ fn too_many_place(t: &[u32], limits: Limits, rows: &[u32], k: usize) -> Found
     ensures { λ r. ⌜ r ≡ lowestIn (stackRulePlaces StackRule.TooMany (instanceIn limits (now (t .entry)))
         (visitAt (stacksIn limits (now (t .entry))) k ∷ [])) ⌝ }
 {
-    let s = stack_at(rows, k);
-    let count = load_count(t, limits, s) as u32;
-    let within = count <= bottom_field(t, limits, s, ISM);
+    let items = load(t, limits, stack_at(rows, k));
+    let count = items.len() as u32;
+    let within = count <= item_field(t, limits, items[0], ISM);
     place_if(!within, row_word(rows, k, row::NUMBER), count, 0)
 }
 
@@ -361,7 +363,7 @@ fn outside_place(t: &[u32], limits: Limits, rows: &[u32], k: usize) -> Found
 {
     let truck = row_word(rows, k, row::TRUCK);
     let ground = footprint_at(rows, k);
-    let size = read_size(t, limits, stack_at(rows, k));
+    let size = read_size(t, limits, load(t, limits, stack_at(rows, k)));
     let within_length = ground.xe <= truck_field(t, limits, truck, TL);
     let within_width = ground.ye <= truck_field(t, limits, truck, TW);
     let within_height = size.height <= truck_field(t, limits, truck, TH);

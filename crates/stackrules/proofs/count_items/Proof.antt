@@ -6,7 +6,7 @@ use borrow.Author.Needs.{needs}
 use lib.ListN.{length, drop}
 use Rattle.meaning.specs.Table.{instanceIn, stacksIn}
 use Rattle.stackrules.specs.StackRules.{Tally}
-use Rattle.stackrules.proofs.Tally.{tally-none}
+use Rattle.stackrules.proofs.Tally.{tally-none, tally-more, countable}
 use Rattle.stackrules.proofs.count_items.Statement.{statement}
 use Rattle.stackrules.proofs.count_items.Tie as tie
 
@@ -30,44 +30,3 @@ loop-holds c =
     let start = z .before .before .before .before in
     let p = stacksIn (start .args .limits) (start .args .t .now) in
     (omega arith, refl, tally-none p (start .pre .1) (z .clear .ensures) (c .stack-count .ensures .0))
-
-sub-s : tie.Need-sub-s Inv-loop μ-loop
-sub-s c = search needs
-
-count-load-requires : tie.Need-count-load-requires Inv-loop μ-loop
-count-load-requires c κs =
-    let l = c .before .before in
-    let start = l .before .before .before .before .before .before .before .before in
-    let back : l .loop .s - 1 + 1 ≡ l .loop .s = omega arith in
-    (start .pre .0, omega arith, rw back (l .loop .inv .2))
-
-loop-less : tie.Need-loop-less Inv-loop μ-loop
-loop-less c = search needs
-
-loop-again : tie.Need-loop-again Inv-loop μ-loop
-loop-again c = (omega arith, omega arith, c .before .before .count-load .ensures)
-
-same-length : tie.Need-same-length Inv-loop μ-loop
-same-length c = search needs
-
-returns : tie.Need-returns Inv-loop μ-loop
-returns c =
-    let l = c .before .loop in
-    let none : l .s ≡ 0 = omega arith in
-    rw none at (l .inv .2)
-
-pub count-items-spec : {M : Type 1} → statement M
-count-items-spec =
-    tie.close
-    (tie.spec
-    Inv-loop
-    μ-loop
-    clear-requires
-    stack-count-requires
-    loop-holds
-    sub-s
-    count-load-requires
-    loop-less
-    loop-again
-    same-length
-    returns)

@@ -8,18 +8,14 @@ use Rattle.stackrules.proofs.Items.{order-listed}
 use Rattle.stackrules.proofs.supplier_visited.Statement.{statement}
 use Rattle.stackrules.proofs.supplier_visited.Tie as tie
 
-item-field-requires : tie.Need-item-field-requires
-item-field-requires c κs = search needs
-
-supplier-order-requires : tie.Need-supplier-order-requires
-supplier-order-requires c κs = search needs
-
 returns : tie.Need-returns
 returns c =
-    let a = c .before .before .before .args in
+    let field = c .before in
+    let truck = field .before in
+    let a = truck .before .before .args in
     let i = instanceIn (a .limits) (a .t .now) in
     order-listed (truckOf i (stackAt (stacksIn (a .limits) (a .t .now)) (a .s)) .suppliers) (IU (item i (a .n)))
-    refl (c .before .item-field .ensures .0) (c .supplier-order .ensures .0)
+    (rw (truck .stack-truck .ensures .0) refl) (field .item-field .ensures .0) (c .supplier-order .ensures .0)
 
 pub supplier-visited-spec : {M : Type 1} → statement M
-supplier-visited-spec = tie.close (tie.spec item-field-requires supplier-order-requires returns)
+supplier-visited-spec = tie.close (tie.spec (λ c κs. search needs) (λ c κs. search needs) (λ c κs. search needs) returns)
