@@ -361,6 +361,7 @@ fn outside_place(t: &[u32], limits: Limits, rows: &[u32], k: usize) -> Found
     ensures { λ r. ⌜ r ≡ lowestIn (stackRulePlaces StackRule.Outside (instanceIn limits (now (t .entry)))
         (visitAt (stacksIn limits (now (t .entry))) k ∷ [])) ⌝ }
 {
+    let number = row_word(rows, k, row::NUMBER);
     let truck = row_word(rows, k, row::TRUCK);
     let ground = footprint_at(rows, k);
     let size = read_size(t, limits, load(t, limits, stack_at(rows, k)));
@@ -368,12 +369,8 @@ fn outside_place(t: &[u32], limits: Limits, rows: &[u32], k: usize) -> Found
     let within_width = ground.ye <= truck_field(t, limits, truck, TW);
     let within_height = size.height <= truck_field(t, limits, truck, TH);
     let inside = (within_length & within_width) & within_height;
-    place_if(
-        !inside,
-        row_word(rows, k, row::NUMBER),
-        exceeded_side(within_length, within_width),
-        0,
-    )
+    let side = exceeded_side(within_length, within_width);
+    place_if(!inside, number, side, 0)
 }
 
 // Where the stack that is visited at place k breaks a rule on stacks.

@@ -30,3 +30,58 @@ loop-holds c =
     let start = z .before .before .before .before in
     let p = stacksIn (start .args .limits) (start .args .t .now) in
     (omega arith, refl, tally-none p (start .pre .1) (z .clear .ensures) (c .stack-count .ensures .0))
+
+sub-s : tie.Need-sub-s Inv-loop μ-loop
+sub-s c = search needs
+
+load-requires : tie.Need-load-requires Inv-loop μ-loop
+load-requires c κs = search needs
+
+count-load-requires : tie.Need-count-load-requires Inv-loop μ-loop
+count-load-requires c κs =
+    let items = c .before in
+    let loop = items .before .before in
+    let start = loop .before .before .before .before .before .before .before .before in
+    countable (loop .loop .s) (start .pre .0) (items .load .ensures .1) (loop .loop .inv .2)
+
+loop-less : tie.Need-loop-less Inv-loop μ-loop
+loop-less c = search needs
+
+loop-again : tie.Need-loop-again Inv-loop μ-loop
+loop-again c =
+    let counted = c .before .before in
+    let items = counted .before .before in
+    let loop = items .before .before in
+    let a = loop .before .before .before .before .before .before .before .before .args in
+    let p = stacksIn (a .limits) (a .t .now) in
+    let back : loop .loop .s - 1 + 1 ≡ loop .loop .s = omega arith in (
+      omega arith,
+      omega arith,
+      tally-more p (omega arith) (rw back (loop .loop .inv .2)) (omega arith) (items .load .ensures .0) (counted .count-load .ensures),
+    )
+
+same-length : tie.Need-same-length Inv-loop μ-loop
+same-length c = search needs
+
+returns : tie.Need-returns Inv-loop μ-loop
+returns c =
+    let l = c .before .loop in
+    let none : l .s ≡ 0 = omega arith in
+    rw none at (l .inv .2)
+
+pub count-items-spec : {M : Type 1} → statement M
+count-items-spec =
+    tie.close
+    (tie.spec
+    Inv-loop
+    μ-loop
+    clear-requires
+    stack-count-requires
+    loop-holds
+    sub-s
+    load-requires
+    count-load-requires
+    loop-less
+    loop-again
+    same-length
+    returns)

@@ -6,29 +6,11 @@ use Rattle.stackrules.proofs.Stacks.{stack-there, truck-there, dense-is
 use Rattle.stackrules.proofs.dense_place.Statement.{statement}
 use Rattle.stackrules.proofs.dense_place.Tie as tie
 
-truck-field-requires : tie.Need-truck-field-requires
-truck-field-requires c κs =
-    let start = c .before .before .before .before .before in
-    (start .pre .0 .filled, truck-there (start .pre .0) (start .pre .1) (c .row-word2 .ensures), omega arith)
-
-bottom-field-requires : tie.Need-bottom-field-requires
-bottom-field-requires c κs =
-    let place = c .before .before .before in
-    let start = place .before .before .before in
-    (start .pre .0 .filled, stack-there (start .pre .0) (start .pre .1) (place .stack-at .ensures), omega arith)
-
-bottom-field-requires-2 : tie.Need-bottom-field-requires-2
-bottom-field-requires-2 c κs =
-    let place = c .before .before .before .before in
-    let start = place .before .before .before in
-    (start .pre .0 .filled, stack-there (start .pre .0) (start .pre .1) (place .stack-at .ensures), omega arith)
-
 density-kept-requires : tie.Need-density-kept-requires
 density-kept-requires c κs =
     let limit = c .before .before in
     let weight = limit .before .before in
-    let start = weight .before .before .before .before in
-    (
+    let start = weight .before .before .before .before in (
       omega (arith, weight .row-word .ensures, word-most (start .pre .0) (start .args .k) (start .pre .1) 8 (omega arith)),
       limit .truck-field .ensures .1,
       c .before .bottom-field .ensures .1,
@@ -56,9 +38,9 @@ dense-place-spec =
     (λ c κs. search needs)
     (λ c κs. search needs)
     (λ c κs. search needs)
-    truck-field-requires
-    bottom-field-requires
-    bottom-field-requires-2
+    (λ c κs. search (needs, truck-there))
+    (λ c κs. search (needs, stack-there))
+    (λ c κs. search (needs, stack-there))
     density-kept-requires
     (λ c κs. search needs)
     (λ c κs. search needs)

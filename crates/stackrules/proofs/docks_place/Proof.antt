@@ -6,11 +6,6 @@ use Rattle.stackrules.proofs.Stacks.{truck-there, docks-is}
 use Rattle.stackrules.proofs.docks_place.Statement.{statement}
 use Rattle.stackrules.proofs.docks_place.Tie as tie
 
-truck-field-requires : tie.Need-truck-field-requires
-truck-field-requires c κs =
-    let start = c .before .before .before .before in
-    (start .pre .0 .filled, truck-there (start .pre .0) (start .pre .1) (c .row-word2 .ensures), omega arith)
-
 add-after : tie.Need-add-after
 add-after c =
     let start = c .before .before .before .before .before .before in
@@ -34,7 +29,7 @@ docks-place-spec =
     (tie.spec
     (λ c κs. search needs)
     (λ c κs. search needs)
-    truck-field-requires
+    (λ c κs. search (needs, truck-there))
     (λ c κs. search needs)
     add-after
     (λ c κs. search needs)

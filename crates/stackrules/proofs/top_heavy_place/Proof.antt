@@ -1,19 +1,8 @@
 -- `stackrules::top_heavy_place`: the test compares the weight and the limit of rule 19.
-use native.Mathlib.Omega.{arith}
 use borrow.Author.Needs.{needs}
 use Rattle.stackrules.proofs.Stacks.{stack-there, truck-there, top-heavy-is}
 use Rattle.stackrules.proofs.top_heavy_place.Statement.{statement}
 use Rattle.stackrules.proofs.top_heavy_place.Tie as tie
-
-load-requires : tie.Need-load-requires
-load-requires c κs =
-    let start = c .before .before .before in
-    (start .pre .0 .filled, stack-there (start .pre .0) (start .pre .1) (c .stack-at .ensures))
-
-truck-field-requires : tie.Need-truck-field-requires
-truck-field-requires c κs =
-    let start = c .before .before .before .before .before .before in
-    (start .pre .0 .filled, truck-there (start .pre .0) (start .pre .1) (c .row-word .ensures), omega arith)
 
 returns : tie.Need-returns
 returns c =
@@ -32,10 +21,10 @@ top-heavy-place-spec =
     tie.close
     (tie.spec
     (λ c κs. search needs)
-    load-requires
+    (λ c κs. search (needs, stack-there))
     (λ c κs. search needs)
     (λ c κs. search needs)
-    truck-field-requires
+    (λ c κs. search (needs, truck-there))
     (λ c κs. search needs)
     (λ c κs. search needs)
     returns)
