@@ -2,14 +2,14 @@
 use mathlib.Core.Path.{_≡_, refl, sym, ap, _∙_}
 use mathlib.Core.Bool.{Bool, not, cond, _&&_, _||_}
 use mathlib.Core.List.{List, [], _∷_, append-nil, flatMap}
-use Prim.Native.Nat.{ℕ, _+_, _*_, _≤_, _<_}
+use Prim.Native.Nat.{ℕ, _+_, _*_, _<_}
 use native.Mathlib.Omega.{arith}
 use lib.Dec.{leb, eqb}
 use lib.ListN.{length, getD, drop}
 use Rattle.meaning.specs.declared.Limits.{Limits}
 use Rattle.meaning.specs.Lists.{onlyIf, sum}
 use Rattle.meaning.specs.Places.{place}
-use Rattle.meaning.specs.Model.{Instance, Stack, item, truckNumbered, number, IM, ISM, IL, IW, TL, TW, TH, TMM, TF, TEM}
+use Rattle.meaning.specs.Model.{Instance, Stack, item, truckNumbered, number, IM, ISM, TL, TW, TH, TMM, TF, TEM}
 use Rattle.meaning.specs.Measures.{weight, sm, sl, sw}
 use Rattle.meaning.specs.Rules.{stackPlaces, plantDocksAllowed, plantDockCount, topWeightWithin, weightAbove, stackabilityKept, itemCount}
 use Rattle.meaning.specs.Rules.{densityWithin, inside, exceededSide}

@@ -1,4 +1,5 @@
-// The item rules 9 to 14, and the stack and placement rules whose test looks at one stack alone: 15, 16, 18 to 22.
+// Rule 9, and the rules whose test looks at one stack alone: those on its items, 10 to 15 and 18, and 16 and 19 to 22. One walk over the
+// stacks tells the first of them that is broken.
 ghost use mathlib.Core.Path.{_≡_};
 ghost use mathlib.Core.Logic.{_↔_};
 ghost use mathlib.Core.Bool.{true, not, cond};
@@ -275,8 +276,8 @@ fn lowest_item(test: ItemTest, t: &[u32], limits: Limits, s: usize) -> Found
     found
 }
 
-// ---- the rules on each stack: those on its items, 16 and 19 to 22. Each function answers where the stack that is visited at place k breaks
-// its rule
+// ---- the rules on each stack: those on its items, 16 and 19 to 22. Each function answers where the stack at place k of the rows
+// breaks its rule
 
 // 16 docks, S2 and S3: one plant dock; where the truck's flag is set also two, if they are consecutive.
 fn docks_place(t: &[u32], limits: Limits, rows: &[u32], k: usize) -> Found
@@ -373,7 +374,7 @@ fn outside_place(t: &[u32], limits: Limits, rows: &[u32], k: usize) -> Found
     place_if(!inside, number, side, 0)
 }
 
-// Where the stack that is visited at place k breaks a rule on stacks.
+// Where the stack at place k breaks a rule on stacks.
 fn stack_place(rule: StackRule, t: &[u32], limits: Limits, rows: &[u32], k: usize) -> Found
     requires { ⌜ HoldsRows limits (now t) (now rows) × (k < length (stacksIn limits (now t))) ⌝ }
     ensures { λ r. ⌜ r ≡ lowestIn (stackRulePlaces rule (instanceIn limits (now (t .entry)))
@@ -391,7 +392,7 @@ fn stack_place(rule: StackRule, t: &[u32], limits: Limits, rows: &[u32], k: usiz
 
 // ---- the first rule on stacks that is broken
 
-// Whether the stack that is visited at place k keeps every rule on stacks. Most stacks do.
+// Whether the stack at place k keeps every rule on stacks. Most stacks do, and then no rule need be asked by itself.
 fn stack_keeps_rules(t: &[u32], limits: Limits, rows: &[u32], k: usize) -> bool
     requires { ⌜ HoldsRows limits (now t) (now rows) × (k < length (stacksIn limits (now t))) ⌝ }
     ensures { λ r. ⌜ (r ≡ true) ↔ StacksKept (instanceIn limits (now (t .entry))) (visitAt (stacksIn limits (now (t .entry))) k ∷ []) ⌝ }
@@ -443,7 +444,7 @@ fn sooner(a: Breach, b: Breach) -> Breach
     }
 }
 
-// Where the stack that is visited at place k breaks the rule of a rank, if that is a rule on stacks.
+// Where the stack at place k breaks the rule of a rank, if that is a rule on stacks.
 fn rank_place(rank: usize, t: &[u32], limits: Limits, rows: &[u32], k: usize) -> Found
     requires { ⌜ HoldsRows limits (now t) (now rows) × (k < length (stacksIn limits (now t))) × (rank < ruleCount) ⌝ }
     ensures { λ r. ⌜ r ≡ foundOnStacks (ruleAt rank) (instanceIn limits (now (t .entry)))
@@ -457,7 +458,7 @@ fn rank_place(rank: usize, t: &[u32], limits: Limits, rows: &[u32], k: usize) ->
     }
 }
 
-// The first rule on stacks that the stack visited at place k breaks.
+// The first rule on stacks that the stack at place k breaks, with its lowest place there.
 fn stack_breach(t: &[u32], limits: Limits, rows: &[u32], k: usize) -> Breach
     requires { ⌜ HoldsRows limits (now t) (now rows) × (k < length (stacksIn limits (now t))) ⌝ }
     ensures { λ r. ⌜ FirstOnStacks (instanceIn limits (now (t .entry))) (visitAt (stacksIn limits (now (t .entry))) k ∷ []) r ⌝ }
@@ -477,7 +478,7 @@ fn stack_breach(t: &[u32], limits: Limits, rows: &[u32], k: usize) -> Breach
     no_breach()
 }
 
-// The first rule on stacks that is broken, with its lowest place.
+// The first rule on stacks that the plan breaks, with its lowest place.
 pub fn first_on_stacks(t: &[u32], limits: Limits, rows: &[u32]) -> Breach
     requires { ⌜ HoldsRows limits (now t) (now rows) ⌝ }
     ensures { λ r. ⌜ FirstOnStacks (instanceIn limits (now (t .entry))) (stacksIn limits (now (t .entry))) r ⌝ }

@@ -18,12 +18,6 @@ Inv-loop t limits times₀ s₀ times s =
 abbrev μ-loop : tie.MeasureT-loop
 μ-loop t limits times₀ s₀ times s = s
 
-clear-requires : tie.Need-clear-requires Inv-loop μ-loop
-clear-requires c κs = search needs
-
-stack-count-requires : tie.Need-stack-count-requires Inv-loop μ-loop
-stack-count-requires c κs = search needs
-
 loop-holds : tie.Need-loop-holds Inv-loop μ-loop
 loop-holds c =
     let z = c .before .before .before in
@@ -31,21 +25,12 @@ loop-holds c =
     let p = stacksIn (start .args .limits) (start .args .t .now) in
     (omega arith, refl, tally-none p (start .pre .1) (z .clear .ensures) (c .stack-count .ensures .0))
 
-sub-s : tie.Need-sub-s Inv-loop μ-loop
-sub-s c = search needs
-
-load-requires : tie.Need-load-requires Inv-loop μ-loop
-load-requires c κs = search needs
-
 count-load-requires : tie.Need-count-load-requires Inv-loop μ-loop
 count-load-requires c κs =
     let items = c .before in
     let loop = items .before .before in
     let start = loop .before .before .before .before .before .before .before .before in
     countable (loop .loop .s) (start .pre .0) (items .load .ensures .1) (loop .loop .inv .2)
-
-loop-less : tie.Need-loop-less Inv-loop μ-loop
-loop-less c = search needs
 
 loop-again : tie.Need-loop-again Inv-loop μ-loop
 loop-again c =
@@ -60,9 +45,6 @@ loop-again c =
       tally-more p (omega arith) (rw back (loop .loop .inv .2)) (omega arith) (items .load .ensures .0) (counted .count-load .ensures),
     )
 
-same-length : tie.Need-same-length Inv-loop μ-loop
-same-length c = search needs
-
 returns : tie.Need-returns Inv-loop μ-loop
 returns c =
     let l = c .before .loop in
@@ -75,13 +57,13 @@ count-items-spec =
     (tie.spec
     Inv-loop
     μ-loop
-    clear-requires
-    stack-count-requires
+    (λ c κs. search needs)
+    (λ c κs. search needs)
     loop-holds
-    sub-s
-    load-requires
+    (λ c. search needs)
+    (λ c κs. search needs)
     count-load-requires
-    loop-less
+    (λ c. search needs)
     loop-again
-    same-length
+    (λ c. search needs)
     returns)
