@@ -48,31 +48,31 @@ pub enum Rule {
     OfTrucks(TruckRule),
 }
 
-// The verdicts of the loading rules in the order of the verdict table.
-const VERDICTS: [u32; 19] = [
-    10,
-    11,
-    12,
-    13,
-    14,
-    15,
-    16,
-    17,
-    18,
-    19,
-    20,
-    21,
-    22,
-    23,
-    24,
-    25,
-    26,
-    27,
-    28,
-];
-
 // How many loading rules there are. A rule's rank is its place in their order, from 0.
 pub const RULES: usize = 19;
+
+// Their verdicts in the order of the verdict table.
+const VERDICTS: [u32; RULES] = [
+    10, // plant
+    11, // product
+    12, // supplier
+    13, // day
+    14, // dock
+    15, // mixed
+    16, // docks
+    17, // second pair
+    18, // turned
+    19, // top heavy
+    20, // too many
+    21, // dense
+    22, // outside
+    23, // overlap
+    24, // unbraced
+    25, // order
+    26, // overload
+    27, // middle
+    28, // rear
+];
 
 // The verdict of the rule of a rank.
 pub fn verdict_at(rank: usize) -> u32

@@ -2,8 +2,7 @@
 use mathlib.Core.Path.{_≡_, refl, sym, _∙_}
 use mathlib.Core.Logic.{_↔_}
 use mathlib.Core.Bool.{Bool, true, _&&_}
-use mathlib.Core.List.{List, [], _∷_}
-use Prim.Native.Nat.{ℕ}
+use mathlib.Core.List.{List, []}
 use Rattle.meaning.specs.declared.Place.{Place}
 use Rattle.meaning.specs.Model.{Instance, Stack, Item, item}
 use Rattle.meaning.specs.Rules.{itemPlaces}
@@ -40,18 +39,24 @@ module _ (i : Instance) (s : Stack) (a : Item) where
   every-item : (everyItemTest i s a ≡ true) ↔ ((rule : ItemRule) → T rule)
   every-item =
       iff-trans (both (both (both (both (both (both itself itself) itself) itself) itself) itself) itself) (
-        (λ h rule. go rule h),
+        (λ h rule.
+            let six = h .0 in
+            let five = six .0 in
+            let four = five .0 in
+            let three = four .0 in
+            let two = three .0 in
+            go rule (two .0) (two .1) (three .1) (four .1) (five .1) (six .1) (h .1)),
         (λ f. ((((((f Plant, f Product), f Supplier), f Day), f Dock), f Mixed), f Turned)),
       )
     where
-      go : (rule : ItemRule) → ((((((T Plant × T Product) × T Supplier) × T Day) × T Dock) × T Mixed) × T Turned) → T rule
-      go Plant h = h .0 .0 .0 .0 .0 .0
-      go Product h = h .0 .0 .0 .0 .0 .1
-      go Supplier h = h .0 .0 .0 .0 .1
-      go Day h = h .0 .0 .0 .1
-      go Dock h = h .0 .0 .1
-      go Mixed h = h .0 .1
-      go Turned h = h .1
+      go : (rule : ItemRule) → T Plant → T Product → T Supplier → T Day → T Dock → T Mixed → T Turned → T rule
+      go Plant p r u d k m t = p
+      go Product p r u d k m t = r
+      go Supplier p r u d k m t = u
+      go Day p r u d k m t = d
+      go Dock p r u d k m t = k
+      go Mixed p r u d k m t = m
+      go Turned p r u d k m t = t
 
   pub every-tested : {p r u d k m t : Bool} → p ≡ itemTest Plant i s a → r ≡ itemTest Product i s a → u ≡ itemTest Supplier i s a → d ≡ itemTest Day i s a
       → k ≡ itemTest Dock i s a → m ≡ itemTest Mixed i s a → t ≡ itemTest Turned i s a
@@ -77,16 +82,19 @@ module _ (i : Instance) (p : List Stack) where
       → ((((((docks && top) && count) && density) && ground) && items) ≡ true) ↔ StacksKept i p
   stack-kept d t c h g l =
       iff-trans (both (both (both (both (both d t) c) h) g) (iff-trans l (every-load i p))) (
-        (λ h. record { each = λ rule. go rule h }),
-        (λ k.
-            (((((k .each Docks, k .each TopHeavy), k .each TooMany), k .each Dense), k .each Outside), λ rule. k .each (EachItem rule))),
+        (λ h.
+            let five = h .0 in
+            let four = five .0 in
+            let three = four .0 in
+            let two = three .0 in
+            record { each = λ rule. go rule (two .0) (two .1) (three .1) (four .1) (five .1) (h .1) }),
+        (λ k. (((((k .each Docks, k .each TopHeavy), k .each TooMany), k .each Dense), k .each Outside), λ rule. k .each (EachItem rule))),
       )
     where
-      go : (rule : StackRule)
-          → (((((None Docks × None TopHeavy) × None TooMany) × None Dense) × None Outside) × ((rule : ItemRule) → None (EachItem rule))) → None rule
-      go (EachItem rule) h = h .1 rule
-      go Docks h = h .0 .0 .0 .0 .0
-      go TopHeavy h = h .0 .0 .0 .0 .1
-      go TooMany h = h .0 .0 .0 .1
-      go Dense h = h .0 .0 .1
-      go Outside h = h .0 .1
+      go : (rule : StackRule) → None Docks → None TopHeavy → None TooMany → None Dense → None Outside → ((each : ItemRule) → None (EachItem each)) → None rule
+      go (EachItem rule) d t c h g l = l rule
+      go Docks d t c h g l = d
+      go TopHeavy d t c h g l = t
+      go TooMany d t c h g l = c
+      go Dense d t c h g l = h
+      go Outside d t c h g l = g

@@ -2,15 +2,15 @@
 use mathlib.Core.Path.{_≡_, refl, sym, ap, _∙_}
 use mathlib.Core.Bool.{Bool, not, cond, _&&_, _||_}
 use mathlib.Core.List.{List, [], _∷_, append-nil, flatMap}
-use Prim.Native.Nat.{ℕ, _+_, _*_, _≤_, _<_}
+use Prim.Native.Nat.{ℕ, _+_, _*_, _<_}
 use native.Mathlib.Omega.{arith}
 use lib.Dec.{leb, eqb}
 use lib.ListN.{length, getD, drop}
 use Rattle.meaning.specs.declared.Limits.{Limits}
 use Rattle.meaning.specs.Lists.{onlyIf, sum}
 use Rattle.meaning.specs.Places.{place}
-use Rattle.meaning.specs.Model.{Instance, Stack, item, truckNumbered, number, IM, ISM, IL, IW, TL, TW, TH, TMM, TF, TEM}
-use Rattle.meaning.specs.Measures.{weight, sm, sl, sw, bottom}
+use Rattle.meaning.specs.Model.{Instance, Stack, item, truckNumbered, number, IM, ISM, TL, TW, TH, TMM, TF, TEM}
+use Rattle.meaning.specs.Measures.{weight, sm, sl, sw}
 use Rattle.meaning.specs.Rules.{stackPlaces, plantDocksAllowed, plantDockCount, topWeightWithin, weightAbove, stackabilityKept, itemCount}
 use Rattle.meaning.specs.Rules.{densityWithin, inside, exceededSide}
 use Rattle.meaning.specs.Table.{instanceIn, stacksIn}
@@ -72,18 +72,18 @@ module _ {m : Limits} {t rows : List ℕ} (h : HoldsRows m t rows) {k : ℕ} (kn
         (docks-tested i (s ∷ []) s count flag low high (orders-bound (h .filled) (getD (visitOrder p) k 0) (order-within p k known)) docks
         (ef ∙ rw (truck-same et) refl) (el ∙ word-is h k known 14 (omega arith)) (eh ∙ word-is h k known 15 (omega arith)))
 
-    pub top-heavy-is : {r : Found} {s above truck limit : ℕ} → s ≡ rowWord rows k 0 → above ≡ sum (λ n. IM (item i n)) (drop 1 (stackAt p s .load))
+    pub top-heavy-is : {r : Found} {s above truck limit : ℕ} {load : List ℕ} → s ≡ rowWord rows k 0 → load ≡ stackAt p s .load → above ≡ sum (λ n. IM (item i n)) (drop 1 load)
         → truck ≡ rowWord rows k 2 → limit ≡ TMM (truckNumbered i truck) → r ≡ lowestIn (onlyIf (not (leb above limit)) (place first above 0))
         → r ≡ lowestIn (stackPlaces topWeightWithin weightAbove i (visitAt p k ∷ []))
     unfolding weight
-    top-heavy-is {above = above} {limit = limit} es ea et el er =
-        one-stack topWeightWithin weightAbove i (visitAt p k) (leb above limit) er numbered (ea ∙ rw (stack-same es) refl)
-        (rw (ea, el, stack-same es, truck-same et) refl)
+    top-heavy-is {above = above} {limit = limit} es eo ea et el er =
+        one-stack topWeightWithin weightAbove i (visitAt p k) (leb above limit) er numbered (ea ∙ rw (eo, stack-same es) refl)
+        (rw (ea, el, eo, stack-same es, truck-same et) refl)
 
-    pub too-many-is : {r : Found} {s count most : ℕ} → s ≡ rowWord rows k 0 → count ≡ length (stackAt p s .load) → most ≡ ISM (bottom i (stackAt p s))
+    pub too-many-is : {r : Found} {s count most : ℕ} {load : List ℕ} → s ≡ rowWord rows k 0 → load ≡ stackAt p s .load → count ≡ length load → most ≡ ISM (item i (getD load 0 0))
         → r ≡ lowestIn (onlyIf (not (leb count most)) (place first count 0)) → r ≡ lowestIn (stackPlaces stackabilityKept itemCount i (visitAt p k ∷ []))
-    too-many-is {count = count} {most = most} es ec em er =
-        one-stack stackabilityKept itemCount i (visitAt p k) (leb count most) er numbered (ec ∙ rw (stack-same es) refl) (rw (ec, em, stack-same es) refl)
+    too-many-is {count = count} {most = most} es eo ec em er =
+        one-stack stackabilityKept itemCount i (visitAt p k) (leb count most) er numbered (ec ∙ rw (eo, stack-same es) refl) (rw (ec, em, eo, stack-same es) refl)
 
     pub dense-is : {r : Found} {s heavy truck limit long wide : ℕ} {kept : Bool} → s ≡ rowWord rows k 0 → heavy ≡ rowWord rows k 8 → truck ≡ rowWord rows k 2
         → limit ≡ TEM (truckNumbered i truck) → long ≡ sl i (stackAt p s) → wide ≡ sw i (stackAt p s) → kept ≡ leb (heavy * 1000000) (limit * long * wide)
@@ -92,13 +92,13 @@ module _ {m : Limits} {t rows : List ℕ} (h : HoldsRows m t rows) {k : ℕ} (kn
         let sum : heavy ≡ sm i (visitAt p k) = eh ∙ word-is h k known 8 (omega arith) in
         one-stack densityWithin sm i (visitAt p k) _ er numbered sum (ek ∙ rw (sum, el, elong, ew, stack-same es, truck-same et) refl)
 
-    pub outside-is : {r : Found} {s truck long wide high side : ℕ} {ground : Footprint} {size : Size} → s ≡ rowWord rows k 0 → truck ≡ rowWord rows k 2
-        → ground ≡ footprintAt rows k → size ≡ sizeOf i (stackAt p s) → long ≡ TL (truckNumbered i truck) → wide ≡ TW (truckNumbered i truck)
+    pub outside-is : {r : Found} {s truck long wide high side : ℕ} {ground : Footprint} {size : Size} {load : List ℕ} → s ≡ rowWord rows k 0 → load ≡ stackAt p s .load → truck ≡ rowWord rows k 2
+        → ground ≡ footprintAt rows k → size ≡ sizeOf i load → long ≡ TL (truckNumbered i truck) → wide ≡ TW (truckNumbered i truck)
         → high ≡ TH (truckNumbered i truck) → side ≡ cond (not (leb (ground .xe) long)) 1 (cond (not (leb (ground .ye) wide)) 2 3)
         → r ≡ lowestIn (onlyIf (not ((leb (ground .xe) long && leb (ground .ye) wide) && leb (size .height) high)) (place first side 0))
         → r ≡ lowestIn (stackPlaces inside exceededSide i (visitAt p k ∷ []))
     unfolding sizeOf
-    outside-is {long = long} {wide = wide} {high = high} {ground = ground} {size = size} es et eg eb el ew eh ed er =
+    outside-is {long = long} {wide = wide} {high = high} {ground = ground} {size = size} es eo et eg eb el ew eh ed er =
         let e = eg ∙ footprint-is h k known in
         one-stack inside exceededSide i (visitAt p k) ((leb (ground .xe) long && leb (ground .ye) wide) && leb (size .height) high) er numbered
-        (ed ∙ rw (e, el, ew, truck-same et) refl) (rw (e, eb, el, ew, eh, stack-same es, truck-same et) refl)
+        (ed ∙ rw (e, el, ew, truck-same et) refl) (rw (e, eb, el, ew, eh, eo, stack-same es, truck-same et) refl)

@@ -1,4 +1,5 @@
-// The item rules 9 to 14, and the stack and placement rules whose test looks at one stack alone: 15, 16, 18 to 22.
+// Rule 9, and the rules whose test looks at one stack alone: those on its items, 10 to 15 and 18, and 16 and 19 to 22. One walk over the
+// stacks tells the first of them that is broken.
 ghost use mathlib.Core.Path.{_≡_};
 ghost use mathlib.Core.Logic.{_↔_};
 ghost use mathlib.Core.Bool.{true, not, cond};
@@ -56,7 +57,6 @@ use table::is_listed;
 use table::item_count;
 use table::item_field;
 use table::load;
-use table::load_count;
 use table::products;
 use table::stack_count;
 use table::stack_field;
@@ -153,7 +153,8 @@ fn supplier_visited(t: &[u32], limits: Limits, s: usize, n: u32) -> bool
     ensures { λ r. ⌜ r ≡ supplierVisited (instanceIn limits (now (t .entry))) (stackAt (stacksIn limits (now (t .entry))) s)
         (item (instanceIn limits (now (t .entry))) n) ⌝ }
 {
-    1 <= supplier_order(t, limits, s, item_field(t, limits, n, IU))
+    let truck = stack_truck(t, limits, s);
+    1 <= supplier_order(t, limits, truck, item_field(t, limits, n, IU))
 }
 
 // 13 day, I5: the truck arrives within the item's days.
@@ -172,7 +173,8 @@ fn docks_served(t: &[u32], limits: Limits, s: usize, n: u32) -> bool
     ensures { λ r. ⌜ r ≡ docksServed (instanceIn limits (now (t .entry))) (stackAt (stacksIn limits (now (t .entry))) s)
         (item (instanceIn limits (now (t .entry))) n) ⌝ }
 {
-    (1 <= supplier_dock_order(t, limits, s, n)) & (1 <= plant_dock_order(t, limits, s, n))
+    let truck = stack_truck(t, limits, s);
+    (1 <= supplier_dock_order(t, limits, truck, n)) & (1 <= plant_dock_order(t, limits, truck, n))
 }
 
 // Whether an item has the bottom item's value in a field.
@@ -274,8 +276,8 @@ fn lowest_item(test: ItemTest, t: &[u32], limits: Limits, s: usize) -> Found
     found
 }
 
-// ---- the rules on each stack: those on its items, 16 and 19 to 22. Each function answers where the stack that is visited at place k breaks
-// its rule
+// ---- the rules on each stack: those on its items, 16 and 19 to 22. Each function answers where the stack at place k of the rows
+// breaks its rule
 
 // 16 docks, S2 and S3: one plant dock; where the truck's flag is set also two, if they are consecutive.
 fn docks_place(t: &[u32], limits: Limits, rows: &[u32], k: usize) -> Found
@@ -297,7 +299,8 @@ fn top_heavy_place(t: &[u32], limits: Limits, rows: &[u32], k: usize) -> Found
     ensures { λ r. ⌜ r ≡ lowestIn (stackRulePlaces StackRule.TopHeavy (instanceIn limits (now (t .entry)))
         (visitAt (stacksIn limits (now (t .entry))) k ∷ [])) ⌝ }
 {
-    let above = load_sum(t, limits, stack_at(rows, k), 1, IM);
+    let items = load(t, limits, stack_at(rows, k));
+    let above = load_sum(t, limits, items, 1, IM);
     let within = above <= truck_field(t, limits, row_word(rows, k, row::TRUCK), TOP_LIMIT);
     place_if(!within, row_word(rows, k, row::NUMBER), above, 0)
 }
@@ -308,9 +311,9 @@ fn too_many_place(t: &[u32], limits: Limits, rows: &[u32], k: usize) -> Found
     ensures { λ r. ⌜ r ≡ lowestIn (stackRulePlaces StackRule.TooMany (instanceIn limits (now (t .entry)))
         (visitAt (stacksIn limits (now (t .entry))) k ∷ [])) ⌝ }
 {
-    let s = stack_at(rows, k);
-    let count = load_count(t, limits, s) as u32;
-    let within = count <= bottom_field(t, limits, s, ISM);
+    let items = load(t, limits, stack_at(rows, k));
+    let count = items.len() as u32;
+    let within = count <= item_field(t, limits, items[0], ISM);
     place_if(!within, row_word(rows, k, row::NUMBER), count, 0)
 }
 
@@ -359,22 +362,19 @@ fn outside_place(t: &[u32], limits: Limits, rows: &[u32], k: usize) -> Found
     ensures { λ r. ⌜ r ≡ lowestIn (stackRulePlaces StackRule.Outside (instanceIn limits (now (t .entry)))
         (visitAt (stacksIn limits (now (t .entry))) k ∷ [])) ⌝ }
 {
+    let number = row_word(rows, k, row::NUMBER);
     let truck = row_word(rows, k, row::TRUCK);
     let ground = footprint_at(rows, k);
-    let size = read_size(t, limits, stack_at(rows, k));
+    let size = read_size(t, limits, load(t, limits, stack_at(rows, k)));
     let within_length = ground.xe <= truck_field(t, limits, truck, TL);
     let within_width = ground.ye <= truck_field(t, limits, truck, TW);
     let within_height = size.height <= truck_field(t, limits, truck, TH);
     let inside = (within_length & within_width) & within_height;
-    place_if(
-        !inside,
-        row_word(rows, k, row::NUMBER),
-        exceeded_side(within_length, within_width),
-        0,
-    )
+    let side = exceeded_side(within_length, within_width);
+    place_if(!inside, number, side, 0)
 }
 
-// Where the stack that is visited at place k breaks a rule on stacks.
+// Where the stack at place k breaks a rule on stacks.
 fn stack_place(rule: StackRule, t: &[u32], limits: Limits, rows: &[u32], k: usize) -> Found
     requires { ⌜ HoldsRows limits (now t) (now rows) × (k < length (stacksIn limits (now t))) ⌝ }
     ensures { λ r. ⌜ r ≡ lowestIn (stackRulePlaces rule (instanceIn limits (now (t .entry)))
@@ -392,7 +392,7 @@ fn stack_place(rule: StackRule, t: &[u32], limits: Limits, rows: &[u32], k: usiz
 
 // ---- the first rule on stacks that is broken
 
-// Whether the stack that is visited at place k keeps every rule on stacks. Most stacks do.
+// Whether the stack at place k keeps every rule on stacks. Most stacks do, and then no rule need be asked by itself.
 fn stack_keeps_rules(t: &[u32], limits: Limits, rows: &[u32], k: usize) -> bool
     requires { ⌜ HoldsRows limits (now t) (now rows) × (k < length (stacksIn limits (now t))) ⌝ }
     ensures { λ r. ⌜ (r ≡ true) ↔ StacksKept (instanceIn limits (now (t .entry))) (visitAt (stacksIn limits (now (t .entry))) k ∷ []) ⌝ }
@@ -444,7 +444,7 @@ fn sooner(a: Breach, b: Breach) -> Breach
     }
 }
 
-// Where the stack that is visited at place k breaks the rule of a rank, if that is a rule on stacks.
+// Where the stack at place k breaks the rule of a rank, if that is a rule on stacks.
 fn rank_place(rank: usize, t: &[u32], limits: Limits, rows: &[u32], k: usize) -> Found
     requires { ⌜ HoldsRows limits (now t) (now rows) × (k < length (stacksIn limits (now t))) × (rank < ruleCount) ⌝ }
     ensures { λ r. ⌜ r ≡ foundOnStacks (ruleAt rank) (instanceIn limits (now (t .entry)))
@@ -458,7 +458,7 @@ fn rank_place(rank: usize, t: &[u32], limits: Limits, rows: &[u32], k: usize) ->
     }
 }
 
-// The first rule on stacks that the stack visited at place k breaks.
+// The first rule on stacks that the stack at place k breaks, with its lowest place there.
 fn stack_breach(t: &[u32], limits: Limits, rows: &[u32], k: usize) -> Breach
     requires { ⌜ HoldsRows limits (now t) (now rows) × (k < length (stacksIn limits (now t))) ⌝ }
     ensures { λ r. ⌜ FirstOnStacks (instanceIn limits (now (t .entry))) (visitAt (stacksIn limits (now (t .entry))) k ∷ []) r ⌝ }
@@ -478,7 +478,7 @@ fn stack_breach(t: &[u32], limits: Limits, rows: &[u32], k: usize) -> Breach
     no_breach()
 }
 
-// The first rule on stacks that is broken, with its lowest place.
+// The first rule on stacks that the plan breaks, with its lowest place.
 pub fn first_on_stacks(t: &[u32], limits: Limits, rows: &[u32]) -> Breach
     requires { ⌜ HoldsRows limits (now t) (now rows) ⌝ }
     ensures { λ r. ⌜ FirstOnStacks (instanceIn limits (now (t .entry))) (stacksIn limits (now (t .entry))) r ⌝ }

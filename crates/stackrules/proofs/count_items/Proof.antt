@@ -6,7 +6,7 @@ use borrow.Author.Needs.{needs}
 use lib.ListN.{length, drop}
 use Rattle.meaning.specs.Table.{instanceIn, stacksIn}
 use Rattle.stackrules.specs.StackRules.{Tally}
-use Rattle.stackrules.proofs.Tally.{tally-none}
+use Rattle.stackrules.proofs.Tally.{tally-none, tally-more, countable}
 use Rattle.stackrules.proofs.count_items.Statement.{statement}
 use Rattle.stackrules.proofs.count_items.Tie as tie
 
@@ -18,12 +18,6 @@ Inv-loop t limits times₀ s₀ times s =
 abbrev μ-loop : tie.MeasureT-loop
 μ-loop t limits times₀ s₀ times s = s
 
-clear-requires : tie.Need-clear-requires Inv-loop μ-loop
-clear-requires c κs = search needs
-
-stack-count-requires : tie.Need-stack-count-requires Inv-loop μ-loop
-stack-count-requires c κs = search needs
-
 loop-holds : tie.Need-loop-holds Inv-loop μ-loop
 loop-holds c =
     let z = c .before .before .before in
@@ -31,24 +25,25 @@ loop-holds c =
     let p = stacksIn (start .args .limits) (start .args .t .now) in
     (omega arith, refl, tally-none p (start .pre .1) (z .clear .ensures) (c .stack-count .ensures .0))
 
-sub-s : tie.Need-sub-s Inv-loop μ-loop
-sub-s c = search needs
-
 count-load-requires : tie.Need-count-load-requires Inv-loop μ-loop
 count-load-requires c κs =
-    let l = c .before .before in
-    let start = l .before .before .before .before .before .before .before .before in
-    let back : l .loop .s - 1 + 1 ≡ l .loop .s = omega arith in
-    (start .pre .0, omega arith, rw back (l .loop .inv .2))
-
-loop-less : tie.Need-loop-less Inv-loop μ-loop
-loop-less c = search needs
+    let items = c .before in
+    let loop = items .before .before in
+    let start = loop .before .before .before .before .before .before .before .before in
+    countable (loop .loop .s) (start .pre .0) (items .load .ensures .1) (loop .loop .inv .2)
 
 loop-again : tie.Need-loop-again Inv-loop μ-loop
-loop-again c = (omega arith, omega arith, c .before .before .count-load .ensures)
-
-same-length : tie.Need-same-length Inv-loop μ-loop
-same-length c = search needs
+loop-again c =
+    let counted = c .before .before in
+    let items = counted .before .before in
+    let loop = items .before .before in
+    let a = loop .before .before .before .before .before .before .before .before .args in
+    let p = stacksIn (a .limits) (a .t .now) in
+    let back : loop .loop .s - 1 + 1 ≡ loop .loop .s = omega arith in (
+      omega arith,
+      omega arith,
+      tally-more p (omega arith) (rw back (loop .loop .inv .2)) (omega arith) (items .load .ensures .0) (counted .count-load .ensures),
+    )
 
 returns : tie.Need-returns Inv-loop μ-loop
 returns c =
@@ -62,12 +57,13 @@ count-items-spec =
     (tie.spec
     Inv-loop
     μ-loop
-    clear-requires
-    stack-count-requires
+    (λ c κs. search needs)
+    (λ c κs. search needs)
     loop-holds
-    sub-s
+    (λ c. search needs)
+    (λ c κs. search needs)
     count-load-requires
-    loop-less
+    (λ c. search needs)
     loop-again
-    same-length
+    (λ c. search needs)
     returns)

@@ -17,12 +17,6 @@ Inv-loop test t limits s number items found₀ j₀ found j = LowestFrom (itemPl
 abbrev μ-loop : tie.MeasureT-loop
 μ-loop test t limits s number items found₀ j₀ found j = j
 
-inside : tie.Need-sub-j Inv-loop μ-loop
-inside c = search needs
-
-read : tie.Need-shared-slice-read-n Inv-loop μ-loop
-read c = omega (arith, c .before .before .loop .inv .down .upto)
-
 item-passes-requires : tie.Need-item-passes-requires Inv-loop μ-loop
 item-passes-requires c κs =
     let loop = c .before .before in
@@ -60,9 +54,9 @@ lowest-item-spec =
     (λ c κs. search needs)
     (λ c κs. search needs)
     (λ c. from-start refl)
-    inside
     (λ c. search needs)
-    read
+    (λ c. search needs)
+    (λ c. omega (arith, c .before .before .loop .inv .down .upto))
     item-passes-requires
     (λ c κs. search needs)
     (λ c κs. search needs)

@@ -8,18 +8,6 @@ use Rattle.meaning.specs.Table.{instanceIn}
 use Rattle.stackrules.proofs.product_carried.Statement.{statement}
 use Rattle.stackrules.proofs.product_carried.Tie as tie
 
-stack-truck-requires : tie.Need-stack-truck-requires
-stack-truck-requires c κs = search needs
-
-products-requires : tie.Need-products-requires
-products-requires c κs = search needs
-
-item-field-requires : tie.Need-item-field-requires
-item-field-requires c κs = search needs
-
-is-listed-requires : tie.Need-is-listed-requires
-is-listed-requires c κs = search needs
-
 returns : tie.Need-returns
 returns c =
     let f = c .before in
@@ -31,5 +19,4 @@ returns c =
 
 pub product-carried-spec : {M : Type 1} → statement M
 product-carried-spec =
-    tie.close
-    (tie.spec stack-truck-requires products-requires item-field-requires is-listed-requires returns)
+    tie.close (tie.spec (λ c κs. search needs) (λ c κs. search needs) (λ c κs. search needs) (λ c κs. search needs) returns)

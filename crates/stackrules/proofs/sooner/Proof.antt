@@ -8,10 +8,12 @@ returns : tie.Need-returns
 returns c = rw (lt-ltb _ _ (c .if1 .taken))
 
 returns-2 : tie.Need-returns-2
-returns-2 c = rw (le-ltb _ _ (c .before .if1 .left), lt-ltb _ _ (c .if2 .taken))
+returns-2 c = rw (le-ltb _ _ (c .before .before .before .if1 .left), lt-ltb _ _ (c .if2 .taken))
 
 returns-3 : tie.Need-returns-3
-returns-3 c = ?
+returns-3 c =
+    let second = c .before .before .before in
+    rw (le-ltb _ _ (second .before .before .before .if1 .left), le-ltb _ _ (second .if2 .left), c .lower-place .ensures)
 
 pub sooner-spec : {M : Type 1} → statement M
 sooner-spec = tie.close (tie.spec returns returns-2 (λ c κs. search needs) returns-3)
