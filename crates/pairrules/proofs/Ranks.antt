@@ -6,23 +6,17 @@ use mathlib.Core.List.{List, map}
 use Prim.Native.Nat.{ℕ, _≤_, _<_}
 use borrow.Author.Tests.{le-leb, lt-leb, eq-eqb, ne-eqb}
 use lib.Dec.{leb, ltb, eqb}
-use lib.ListN.{length, getD}
-use Rattle.meaning.specs.declared.Limits.{Limits}
 use Rattle.meaning.specs.Lists.{all}
-use Rattle.meaning.specs.Model.{Instance, Stack, item, x}
+use Rattle.meaning.specs.Model.{Instance, Stack, item}
 use Rattle.meaning.specs.Measures.{plantDockOrder}
-use Rattle.meaning.specs.Rules.{docksNotAfter, loadsBefore, inLoadingOrder}
-use Rattle.meaning.specs.Table.{instanceIn, stacksIn}
+use Rattle.meaning.specs.Rules.{docksNotAfter, loadsBefore}
 use Rattle.meaning.proofs.Tests.{le-reads, same-test, iff-trans, iff-sym}
 use Rattle.meaning.proofs.Lists.{all-every}
-use Rattle.table.specs.Filled.{Filled}
 use Rattle.views.specs.declared.Rank.{Rank}
 use Rattle.views.specs.Views.{plantDockOrders, spanOf, rankOf}
-use Rattle.views.proofs.Bounds.{orders-bound}
 use Rattle.views.proofs.Spans.{span-low, span-high}
-use Rattle.visits.specs.Visits.{visitOrder, visitAt}
-use Rattle.visits.proofs.Order.{order-within}
-use Rattle.pairrules.specs.PairRules.{ranksBefore}
+use Rattle.visits.specs.Visits.{rowWord, rankAt}
+use Rattle.pairrules.specs.PairRules.{ranksBefore, inOrderAt}
 
 -- ---- the test on ranks, as the code makes it
 pub other-supplier : (a b : Rank) → (a .supplier ≡ b .supplier → ⊥) → ltb (a .«supplier_order») (b .«supplier_order») ≡ ranksBefore a b
@@ -60,22 +54,19 @@ docks-span : (i : Instance) (s r : Stack) → FewOrders i s
 unfolding docksNotAfter plantDockOrders
 docks-span i s r few = all-spans (λ n. plantDockOrder i s (item i n)) (λ m. plantDockOrder i r (item i m)) few (s .load) (r .load)
 
-ranks-before : (i : Instance) (s r : Stack) → FewOrders i s → FewOrders i r → ranksBefore (rankOf i s) (rankOf i r) ≡ loadsBefore i s r
+pub ranks-before : (i : Instance) (s r : Stack) → FewOrders i s → FewOrders i r → ranksBefore (rankOf i s) (rankOf i r) ≡ loadsBefore i s r
 unfolding rankOf loadsBefore
 ranks-before i s r few few′ = rw (docks-span i s r few, docks-span i r s few′) refl
 
--- as a filled table has them
-pub few-orders : {m : Limits} {t : List ℕ} → Filled m t → (k : ℕ) → k < length (stacksIn m t) → FewOrders (instanceIn m t) (visitAt (stacksIn m t) k)
-few-orders {m} {t} h k inside = orders-bound h (getD (visitOrder (stacksIn m t)) k 0) (order-within (stacksIn m t) k inside)
+-- ---- 25 order, as the code asks it: x first
+pub in-front : (order : Bool) (u v : ℕ) → u ≤ v → true ≡ (order || leb u v)
+in-front order u v h = rw (le-leb u v h) (sym (or-true order))
 
--- ---- 25 order, as the code asks it
--- two stacks and their x as the rows have it
-module _ (i : Instance) (s r : Stack) {u v : ℕ} (eu : u ≡ x s) (ev : v ≡ x r) where
-  pub front-kept : u ≤ v → true ≡ inLoadingOrder i s r
-  front-kept h = rw (le-leb (x s) (x r) (rw (eu, ev) at h)) (sym (or-true (not (loadsBefore i s r))))
+-- two places and their x as it is read
+module _ (rows : List ℕ) (a b : ℕ) {u v : ℕ} (eu : u ≡ rowWord rows a 4) (ev : v ≡ rowWord rows b 4) where
+  pub front-in-order : u ≤ v → true ≡ inOrderAt rows a b
+  front-in-order h = in-front (not (ranksBefore (rankAt rows a) (rankAt rows b))) _ _ (rw (eu, ev) at h)
 
-  pub behind-kept : v < u → FewOrders i s → FewOrders i r → {a b : Rank} {before : Bool} → a ≡ rankOf i s → b ≡ rankOf i r → before ≡ ranksBefore a b
-      → not before ≡ inLoadingOrder i s r
-  behind-kept h few few′ {a} {b} {before} ea eb e =
-      let same : before ≡ loadsBefore i s r = e ∙ rw (ea, eb) (ranks-before i s r few few′) in
-      rw (same, lt-leb (x s) (x r) (rw (eu, ev) at h)) (sym (or-false (not (loadsBefore i s r))))
+  pub behind-in-order : v < u → {s r : Rank} {before : Bool} → s ≡ rankAt rows a → r ≡ rankAt rows b → before ≡ ranksBefore s r
+      → not before ≡ inOrderAt rows a b
+  behind-in-order h es er e = rw (e, es, er, lt-leb (rowWord rows a 4) (rowWord rows b 4) (rw (eu, ev) at h)) (sym (or-false _))
