@@ -32,7 +32,7 @@ use Rattle.pairrules.specs.PairRules.{pairTest, PartnersFrom, PartnersOf
 use Rattle.pairrules.proofs.Pairs.{self-in-order}
 
 -- ---- the places of broken pairs
-another-is : (s r : Stack) → (another s r ≡ true) ↔ ((usedBy s ≡ usedBy r) × (number s ≡ number r → ⊥))
+pub another-is : (s r : Stack) → (another s r ≡ true) ↔ ((usedBy s ≡ usedBy r) × (number s ≡ number r → ⊥))
 another-is s r =
     let same = eqb (number s) (number r) in
     iff-trans (and-reads (sameUsed (usedBy s) (usedBy r)) (not same))

@@ -1,17 +1,20 @@
 -- The places of a block by a word of their rows: they are those of the block, each is there, and the word does not fall.
-use mathlib.Core.Path.{_≡_, sym, ap, _∙_}
-use mathlib.Core.Logic.{⊎-elim}
+use mathlib.Core.Path.{_≡_, sym, ap, subst, _∙_}
+use mathlib.Core.Logic.{⊎-elim, _↔_}
 use mathlib.Core.List.{List}
-use Prim.Native.Nat.{ℕ, _+_, _-_, _≤_, _<_}
+use Prim.Native.Nat.{ℕ, zero, suc, _+_, _-_, _≤_, _<_}
 use native.Mathlib.Nat.{eq-or-lt-of-le}
 use native.Mathlib.Omega.{arith}
 use lib.ListN.{length, getD, take, set}
 use lib.Seq.{getD-take, getD-set-same, getD-set-other}
-use Rattle.meaning.specs.Lists.{upFrom}
-use Rattle.meaning.proofs.Lists.{at-in, in-at, in-upFrom, length-upFrom}
+use Rattle.meaning.specs.Lists.{upFrom, In}
+use Rattle.meaning.proofs.Tests.{iff-trans}
+use Rattle.meaning.proofs.Lists.{NoRepeat, at-in, in-at, in-upFrom, length-upFrom}
+use Rattle.meaning.proofs.Permute.{noRepeat-perm}
 use Rattle.visits.specs.declared.Block.{Block}
 use Rattle.visits.specs.Visits.{sortBy, rowWord}
-use Rattle.visits.proofs.Order.{sort-length, sort-in, sort-rising, sort-agree}
+use Rattle.visits.proofs.Order.{sort-perm, sort-length, sort-in, sort-rising, sort-agree}
+use Rattle.visits.proofs.UsedTrucks.{noRepeat-at}
 use Rattle.pairrules.specs.PairRules.{Inside, SortedRows, placeAt}
 
 -- ---- the keys
@@ -47,6 +50,11 @@ module _ {rows : List ℕ} {on : Block} {word : ℕ} {keys : List ℕ} where
         }
 
 -- ---- the order
+counted-once : (a n : ℕ) → NoRepeat (upFrom a n)
+unfolding upFrom
+counted-once a zero = tt
+counted-once a (suc n) = ((λ m. omega (arith, in-upFrom (suc a) n a .0 m)), counted-once (suc a) n)
+
 module _ {rows : List ℕ} {on : Block} {word : ℕ} {order : List ℕ} (h : SortedRows rows on word order) where
   abbrev count : ℕ
   count = on .end - on .start
@@ -77,6 +85,18 @@ module _ {rows : List ℕ} {on : Block} {word : ℕ} {order : List ℕ} (h : Sor
       let w = in-at 0 sorted (q - on .start) there in
       let few : w .0 < count = omega (arith, sorted-length, w .1) in
       (w .0, few, omega (arith, at-sorted (w .0) few, w .2))
+
+  -- once
+  pub place-once : (j k : ℕ) → j < k → k < count → placeAt on order j ≡ placeAt on order k → ⊥
+  place-once j k less inside e =
+      noRepeat-at 0 sorted (noRepeat-perm (sort-perm key (upFrom 0 count)) (counted-once 0 count)) j k less (rw sorted-length inside)
+      (omega (arith, e, at-sorted j (omega arith), at-sorted k inside))
+
+  -- the numbers of these places, counted from the block's start
+  pub order-in : (j : ℕ) → In j (take count order) ↔ (j < count)
+  order-in j =
+      iff-trans (subst (λ (l : List ℕ). In j (take count order) ↔ In j l) (h .is) ((λ m. m), (λ m. m)))
+      (iff-trans (sort-in key (upFrom 0 count) j) ((λ m. omega (arith, in-upFrom 0 count j .0 m)), (λ less. in-upFrom 0 count j .1 (omega arith))))
 
   -- and the word does not fall
   pub word-rising : (j k : ℕ) → j ≤ k → k < count → rowWord rows (placeAt on order j) word ≤ rowWord rows (placeAt on order k) word
