@@ -1,5 +1,4 @@
-pub mod Weights
-pub mod Aboard
-pub mod Departures
 pub mod Signed
-pub mod Levers
+pub mod Places
+pub mod Rows
+pub mod Departures

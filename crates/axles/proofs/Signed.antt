@@ -3,14 +3,13 @@ use mathlib.Core.Path.{_≡_, refl, ap₂, _∙_}
 use Prim.Native.Nat.{ℕ, zero, suc, _+_, _*_, _^_, _≤_}
 use native.Mathlib.Nat.{mul-le-mul, le-refl}
 use native.Mathlib.Omega.{arith}
-use lib.Dec.{T, ltb, ltb→lt, leb→le, le→leb}
+use lib.Dec.{T, ltb, ltb→lt}
 use lib.IntN.{ℤ, pos, negsuc, negℤ, natAbs, _+ℤ_, _-ℤ_, _*ℤ_}
 use lib.Signed.{leZ}
 use mir.Syntax.{w64}
 use mir.Val.{SFits, toZ, ofZ}
 use mir.Facts.{toZ-ofZ, toZ-pos}
 use Rattle.meaning.proofs.Ring.{less, less-cases}
-use Rattle.axles.specs.Aboard.{Moderate}
 
 -- ---- how far from zero
 -- a difference is no further than the greater of its two numbers
@@ -37,15 +36,6 @@ times-size (pos m) (pos n) h k = mul-le-mul h k
 times-size (pos m) (negsuc n) h k = rw (negative-size (pos (m * suc n))) (mul-le-mul h k)
 times-size (negsuc m) (pos n) h k = rw (negative-size (pos (suc m * n))) (mul-le-mul h k)
 times-size (negsuc m) (negsuc n) h k = mul-le-mul h k
-
--- the contracts' bound of H
-pub moderate-size : (h : ℤ) → Moderate h → natAbs h ≤ 300000000000000
-moderate-size (pos n) m = leb→le n 300000000000000 (m .atMost .le)
-moderate-size (negsuc n) m = let k = leb→le n 299999999999999 (m .atLeast .le) in omega arith
-
-pub size-moderate : (h : ℤ) → natAbs h ≤ 300000000000000 → Moderate h
-size-moderate (pos n) k = record { atMost = record { le = le→leb n 300000000000000 k }; atLeast = record { le = tt } }
-size-moderate (negsuc n) k = record { atMost = record { le = tt }; atLeast = record { le = le→leb n 299999999999999 (omega arith) } }
 
 -- ---- the machine's numbers
 pub in-range : (z : ℤ) {most : ℕ} → natAbs z ≤ most → T (ltb most (2 ^ 63)) → SFits w64 z

@@ -1,1 +1,1 @@
-pub mod Aboard
+pub mod Weights

@@ -13,9 +13,9 @@ use Rattle.meaning.specs.Rules.{pairPlaces, stackPlaces, truckPlaces, departure
 use Rattle.meaning.proofs.Lists.{any-none, filter-none, any-append, filter-append, dedup-append, same-turned, in-map, flatMap-none, flatMap-append, flatMap-agree}
 use Rattle.meaning.proofs.RuleKinds.{used-reads}
 use Rattle.meaning.proofs.Levers.{in-used}
-use Rattle.judging.specs.Judging.{truckRulePlaces}
-use Rattle.judging.specs.declared.TruckRule.{TruckRule}
-use Rattle.judging.specs.declared.TruckRule.the-variants.{EachPair, Unbraced, Overload, EachDeparture}
+use Rattle.rules.specs.declared.TruckRule.{TruckRule}
+use Rattle.rules.specs.declared.TruckRule.the-variants.{Unbraced, Overload, Middle, Rear}
+use Rattle.rules.specs.LoadingRules.{truckRulePlaces}
 
 -- ---- lists in two parts
 module _ {A B : Type 0} where
@@ -47,7 +47,7 @@ module _ (i : Instance) (l l′ : List Stack) (apart : Apart l l′) where
     second-pairs : (r : Stack) → In r l′ → flatMap (pairPlace r) (l ++ l′) ≡ flatMap (pairPlace r) l′
     second-pairs r n = flatMap-append (pairPlace r) l l′ ∙ rw (flatMap-none (pairPlace r) l .1 (λ s m. no-pair r s (turned r s n m))) refl
 
-    pairs-apart : pairPlaces kept i (l ++ l′) ≡ pairPlaces kept i l ++ pairPlaces kept i l′
+    pub pairs-apart : pairPlaces kept i (l ++ l′) ≡ pairPlaces kept i l ++ pairPlaces kept i l′
     unfolding pairPlaces
     pairs-apart = in-parts _ _ _ l l′ first-pairs second-pairs
 
@@ -112,8 +112,8 @@ module _ (i : Instance) (l l′ : List Stack) (apart : Apart l l′) where
           (departures i u)
 
   -- ---- every rule on used trucks
-  pub rule-apart : (rule : TruckRule) → truckRulePlaces rule i (l ++ l′) ≡ truckRulePlaces rule i l ++ truckRulePlaces rule i l′
-  rule-apart (EachPair rule) = pairs-apart _
-  rule-apart Unbraced = unbraced-apart
-  rule-apart Overload = trucks-apart _
-  rule-apart (EachDeparture axle) = departures-apart _
+  pub truck-rule-apart : (rule : TruckRule) → truckRulePlaces rule i (l ++ l′) ≡ truckRulePlaces rule i l ++ truckRulePlaces rule i l′
+  truck-rule-apart Unbraced = unbraced-apart
+  truck-rule-apart Overload = trucks-apart _
+  truck-rule-apart Middle = departures-apart _
+  truck-rule-apart Rear = departures-apart _

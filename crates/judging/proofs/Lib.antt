@@ -1,5 +1,5 @@
 pub mod Apart
-pub mod Trucks
-pub mod Settling
 pub mod Cost
+pub mod Told
+pub mod Asking
 pub mod Verdicts

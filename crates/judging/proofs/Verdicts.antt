@@ -1,141 +1,130 @@
--- The rules by the code's names are those of the verdict table, and the first broken one is found by asking them one after another.
-use mathlib.Core.Path.{_≡_, refl, sym, ap, _∙_}
-use mathlib.Core.Option.{Option, none, some}
-use mathlib.Core.List.{List, [], _∷_, map}
-use Prim.Native.Nat.{ℕ, suc, _+_, _-_, _≤_, _<_}
+-- The verdict by the loading rules: from what the stacks and the used trucks tell to the first broken rule.
+use mathlib.Core.Path.{_≡_, refl, sym, _∙_}
+use mathlib.Core.Logic.{_↔_, _⊎_, inl, inr, ⊎-elim}
+use mathlib.Core.Bool.{Bool, true, false, not}
+use mathlib.Core.List.{List, []}
+use Prim.Native.Nat.{ℕ, suc, _+_, _≤_, _<_}
+use native.Mathlib.Decide.{decLe}
+use native.Mathlib.Nat.{eq-or-lt-of-le}
 use native.Mathlib.Omega.{arith}
-use lib.ListN.{length, getD, drop, length-drop, drop-of-length-le}
-use lib.Seq.{drop-cons, getD-drop}
+use borrow.Author.Tests.{not-true, not-false}
 use Rattle.meaning.specs.declared.Place.{Place}
-use Rattle.meaning.specs.declared.Answer.{Answer}
-use Rattle.meaning.specs.Lists.{upFrom}
-use Rattle.meaning.specs.Places.{lowest}
 use Rattle.meaning.specs.Model.{Instance, Stack}
-use Rattle.meaning.specs.Rules as meant
-use Rattle.meaning.specs.Rules.{rules, itemRules, stackRules, placementRules, weightRules, notOnce}
-use Rattle.meaning.specs.Verdict.{refusal, brokenOr, firstBroken, verdictOn, acceptance, cost}
-use Rattle.meaning.specs.Measures.{usedTrucks}
-use Rattle.meaning.proofs.Lists.{map-at, upFrom-at}
-use Rattle.search.specs.Lowest.{foundOf, lowestIn}
+use Rattle.meaning.proofs.Tests.{true≢false, fails}
+use Rattle.search.specs.Lowest.{lowestIn}
 use Rattle.search.specs.declared.Found.{Found}
 use Rattle.search.specs.declared.Found.the-variants.{At, Nothing}
-use Rattle.judging.specs.Judging.{rulePlaces, laterRules, ruleOf}
+use Rattle.search.proofs.Lowest.{none-listed}
+use Rattle.rules.specs.declared.Rule.{Rule}
+use Rattle.rules.specs.declared.Rule.the-variants.{OfStacks, OfPairs, OfTrucks}
+use Rattle.rules.specs.declared.PairRule.{PairRule}
+use Rattle.rules.specs.declared.TruckRule.{TruckRule}
+use Rattle.rules.specs.LoadingRules.{rulePlaces, onStack, ruleCount, ruleAt, KeptBelow}
+use Rattle.stackrules.specs.declared.Breach.{Breach}
+use Rattle.stackrules.specs.StackRules.{FirstOnStacks}
+use Rattle.judging.specs.declared.Asked.{Asked}
+use Rattle.judging.specs.declared.Findings.{Findings}
+use Rattle.judging.specs.Judging.{isAsked, AskedBelow, truckFound, nothing, keptBy, Tells, TellsAsked, FirstRank, placeIn}
 
--- ---- an answer of a search, taken back
-none-back : (o : Option Place) → Nothing ≡ foundOf o → o ≡ none
-none-back none e = refl
-none-back (some p) e = let z : _≡_ {A = ℕ} 0 1 = cc in absurd (omega arith)
+-- ---- what a search found
+found-none : (f : Found) → nothing f ≡ true → Nothing ≡ f
+found-none (At p) e = absurd (true≢false (sym e))
+found-none Nothing e = refl
 
-some-back : (o : Option Place) (p : Place) → At p ≡ foundOf o → o ≡ some p
-some-back none p e = let z : _≡_ {A = ℕ} 0 1 = cc in absurd (omega arith)
-some-back (some q) p e = cc
+found-some : (f : Found) → nothing f ≡ false → At (placeIn f) ≡ f
+found-some (At p) e = refl
+found-some Nothing e = absurd (true≢false e)
 
--- ---- one rule of the table
-module _ (r : meant.Rule) (rs : List meant.Rule) (i : Instance) (p : List Stack) (kept : Answer) where
-  rule-broken : (q : Place) → At q ≡ lowestIn (r .places i p) → refusal (r .verdict) q ≡ firstBroken (r ∷ rs) i p kept
-  unfolding firstBroken lowestIn brokenOr
-  rule-broken q e = rw (some-back (lowest (r .places i p)) q e) refl
+pub kept-told : {f g : Found} {none : Bool} → f ≡ g → (none ≡ true) ↔ (f ≡ Nothing) → none ≡ nothing g
+kept-told {f} {g} {none} e h = by-kind g e
+  where
+    by-kind : (g : Found) → f ≡ g → none ≡ nothing g
+    by-kind (At p) e = fails none (λ t. absurd (never p (sym e ∙ h .0 t)))
+    by-kind Nothing e = h .1 e
 
-  rule-kept : Nothing ≡ lowestIn (r .places i p) → firstBroken (r ∷ rs) i p kept ≡ firstBroken rs i p kept
-  unfolding firstBroken lowestIn brokenOr
-  rule-kept e = rw (none-back (lowest (r .places i p)) e) refl
+    never : (p : Place) → At p ≡ Nothing → ⊥
+    never p e = let z : _≡_ {A = ℕ} 0 1 = cc in omega arith
 
--- ---- the table from 10 on, and the code's names for its rules
-places-named : map (λ (r : meant.Rule). r .places) (drop 1 rules) ≡ map rulePlaces laterRules
-unfolding rules itemRules stackRules placementRules weightRules
-places-named = refl
+-- a search that is made where a rule is not kept finds a place
+pub lowest-broken : {f : Found} {places : List Place} {kept : Bool} → f ≡ lowestIn places → (kept ≡ true) ↔ (places ≡ []) → kept ≡ false
+    → At (placeIn f) ≡ lowestIn places
+lowest-broken {f} {places} e tells broken = by-kind (nothing f) refl
+  where
+    by-kind : (n : Bool) → nothing f ≡ n → At (placeIn f) ≡ lowestIn places
+    by-kind true z = absurd (true≢false (sym (tells .1 (none-listed places (found-none f z ∙ e))) ∙ broken))
+    by-kind false z = found-some f z ∙ e
 
-verdicts-named : map (λ (r : meant.Rule). r .verdict) (drop 1 rules) ≡ upFrom 10 19
-unfolding rules itemRules stackRules placementRules weightRules upFrom
-verdicts-named = refl
+-- ---- a rule that the used trucks tell to be kept
+told-kept : (asked : Asked) (i : Instance) (p : List Stack) (f : Findings) (rule : Rule) → isAsked asked rule ≡ true → Tells rule i p f → keptBy rule f ≡ true
+    → rulePlaces rule i p ≡ []
+told-kept asked i p f (OfStacks rule) a h e = absurd (true≢false (sym a))
+told-kept asked i p f (OfPairs rule) a h e = h .0 e
+told-kept asked i p f (OfTrucks rule) a h e = none-listed _ (found-none (truckFound rule f) e ∙ h)
 
-rules-length : length rules ≡ 20
-unfolding rules itemRules stackRules placementRules weightRules
-rules-length = refl
+-- ---- the loop over the ranks
+-- the rules below `rank` are told to be kept
+pub record KeptTo (f : Findings) (upto rank : ℕ) : Type 0 where
+  pub within : rank ≤ upto
+  pub kept : (k : ℕ) → k < rank → keptBy (ruleAt k) f ≡ true
 
--- stands in for a row that the table does not have
-noRule : meant.Rule
-noRule = record { verdict = 0; places = λ i p. [] }
+module _ {f : Findings} {upto : ℕ} where
+  pub kept-start : KeptTo f upto 0
+  kept-start = record { within = omega arith; kept = λ k below. absurd (omega arith) }
 
-abbrev tableRow : ℕ → meant.Rule
-tableRow verdict = getD rules (verdict - 9) noRule
+  module _ {rank : ℕ} (h : KeptTo f upto rank) where
+    pub kept-on : {kept : Bool} → rank < upto → kept ≡ keptBy (ruleAt rank) f → not kept ≡ false → KeptTo f upto (rank + 1)
+    kept-on {kept} more e q = record { within = omega arith; kept = λ k below. go k below (decLe (suc k) rank) }
+      where
+        go : (k : ℕ) → k < rank + 1 → Dec (k < rank) → keptBy (ruleAt k) f ≡ true
+        go k below (yes less) = h .kept k less
+        go k below (no past) = let same : k ≡ rank = omega arith in rw same (sym e ∙ not-false kept q)
 
-module _ (v : ℕ) (from : 10 ≤ v) (upto : v ≤ 28) where
-  -- the same row, from 10 on
-  later-row : tableRow v ≡ getD (drop 1 rules) (v - 10) noRule
-  later-row = let e : 1 + (v - 10) ≡ v - 9 = omega arith in sym (getD-drop 1 rules (v - 10) noRule ∙ ap (λ k. getD rules k noRule) e)
+    pub kept-until : {kept : Bool} → kept ≡ keptBy (ruleAt rank) f → not kept ≡ true → FirstRank f upto rank
+    kept-until {kept} e q = record { within = h .within; kept = h .kept; broken = λ more. sym e ∙ not-true kept q }
 
-  later-within : v - 10 < length (drop 1 rules)
-  later-within = omega (arith, length-drop 1 rules, rules-length)
+    pub kept-whole : upto ≤ rank → FirstRank f upto rank
+    kept-whole past = record { within = h .within; kept = h .kept; broken = λ more. absurd (omega arith) }
 
-  row-verdict : tableRow v .verdict ≡ v
-  row-verdict =
-      let e : 10 + (v - 10) ≡ v = omega arith in
-      ap (λ (r : meant.Rule). r .verdict) later-row ∙ sym (map-at (λ (r : meant.Rule). r .verdict) (drop 1 rules) (v - 10) noRule 0 later-within)
-      ∙ ap (λ (l : List ℕ). getD l (v - 10) 0) verdicts-named ∙ upFrom-at 10 19 (v - 10) 0 (omega arith) ∙ e
+-- ---- the first broken rule
+module _ {i : Instance} {p : List Stack} {b : Breach} {asked : Asked} {f : Findings} {rank : ℕ} (first : FirstOnStacks i p b)
+    (covers : AskedBelow (b .rank) asked) (tells : TellsAsked asked i p f) (r : FirstRank f (b .rank) rank) where
+  -- no rule below it lists a place
+  pub kept-below : KeptBelow i p rank
+  kept-below = record { each = λ k below. go k below (covers .each k (omega (arith, r .within))) }
+    where
+      go : (k : ℕ) → k < rank → (onStack (ruleAt k) ≡ true) ⊎ (isAsked asked (ruleAt k) ≡ true) → rulePlaces (ruleAt k) i p ≡ []
+      go k below (inl s) = first .kept k (omega (arith, r .within)) s
+      go k below (inr a) = told-kept asked i p f (ruleAt k) a (tells .each (ruleAt k) a) (r .kept k below)
 
-  row-places : tableRow v .places ≡ rulePlaces (ruleOf v)
-  row-places =
-      let none : Instance → List Stack → List Place = λ i p. [] in
-      ap (λ (r : meant.Rule). r .places) later-row ∙ sym (map-at (λ (r : meant.Rule). r .places) (drop 1 rules) (v - 10) noRule none later-within)
-      ∙ ap (λ (l : List (Instance → List Stack → List Place)). getD l (v - 10) none) places-named ∙ map-at rulePlaces laterRules (v - 10) _ none (omega arith)
+  -- where a rule on single stacks is broken at that rank, it is the first of them
+  pub on-stacks : rank < ruleCount → onStack (ruleAt rank) ≡ true → At (b .place) ≡ lowestIn (rulePlaces (ruleAt rank) i p)
+  on-stacks inside s = ⊎-elim here (λ less. absurd (before (ruleAt rank) s (r .broken less))) (eq-or-lt-of-le (r .within))
+    where
+      here : rank ≡ b .rank → At (b .place) ≡ lowestIn (rulePlaces (ruleAt rank) i p)
+      here e = rw e (first .broken (rw (← e) inside) .1)
 
-  rules-from : drop (v - 9) rules ≡ tableRow v ∷ drop (v + 1 - 9) rules
-  rules-from =
-      let e : suc (v - 9) ≡ v + 1 - 9 = omega arith in
-      drop-cons rules (v - 9) noRule (omega (arith, rules-length)) ∙ ap (λ k. tableRow v ∷ drop k rules) e
+      before : (rule : Rule) → onStack rule ≡ true → keptBy rule f ≡ false → ⊥
+      before (OfStacks rule) s e = true≢false e
+      before (OfPairs rule) s e = true≢false (sym s)
+      before (OfTrucks rule) s e = true≢false (sym s)
 
--- ---- the loop over the verdicts from 10 on
--- the rules before `verdict` are kept
-pub record Asked (i : Instance) (p : List Stack) (kept : Answer) (verdict : ℕ) : Type 0 where
-  pub from : 10 ≤ verdict
-  pub upto : verdict ≤ 29
-  pub is : firstBroken (drop (verdict - 9) rules) i p kept ≡ firstBroken (drop 1 rules) i p kept
+  -- any other comes before it, and the used trucks tell of it
+  module _ (inside : rank < ruleCount) (other : onStack (ruleAt rank) ≡ false) where
+    below : rank < b .rank
+    below = ⊎-elim (λ e. absurd (true≢false (sym (first .broken (rw (← e) inside) .0) ∙ rw (← e) other))) (λ less. less) (eq-or-lt-of-le (r .within))
 
-module _ {i : Instance} {p : List Stack} {kept : Answer} where
-  pub asked-start : Asked i p kept 10
-  asked-start = record { from = omega arith; upto = omega arith; is = refl }
+    pub told : Tells (ruleAt rank) i p f
+    told = ⊎-elim (λ s. absurd (true≢false (sym s ∙ other))) (λ a. tells .each (ruleAt rank) a) (covers .each rank below)
 
-  module _ {v : ℕ} (h : Asked i p kept v) (more : v ≤ 28) {found : Found} (e : found ≡ lowestIn (rulePlaces (ruleOf v) i p)) where
-    asked : found ≡ lowestIn (tableRow v .places i p)
-    asked = e ∙ rw (row-places v (h .from) more) refl
+    pub told-broken : keptBy (ruleAt rank) f ≡ false
+    told-broken = r .broken below
 
-    pub asked-broken : (q : Place) → found ≡ At q → refusal v q ≡ firstBroken (drop 1 rules) i p kept
-    asked-broken q f =
-        ap (λ n. refusal n q) (sym (row-verdict v (h .from) more)) ∙ rule-broken (tableRow v) (drop (v + 1 - 9) rules) i p kept q (sym f ∙ asked)
-        ∙ rw (← rules-from v (h .from) more) (h .is)
+-- by the kind of the rule at that rank
+module _ (i : Instance) (p : List Stack) (f : Findings) where
+  pub pair-broken : {rule : Rule} (pair : PairRule) {found : Found} → rule ≡ OfPairs pair → Tells rule i p f → keptBy rule f ≡ false
+      → found ≡ lowestIn (rulePlaces (OfPairs pair) i p) → At (placeIn found) ≡ lowestIn (rulePlaces rule i p)
+  pair-broken pair e h broken is = rw e (lowest-broken is (rw e at h) (rw e at broken))
 
-    pub asked-kept : found ≡ Nothing → Asked i p kept (v + 1)
-    asked-kept f = record {
-      from = omega (arith, h .from);
-      upto = omega arith;
-      is = sym (rule-kept (tableRow v) (drop (v + 1 - 9) rules) i p kept (sym f ∙ asked)) ∙ rw (← rules-from v (h .from) more) (h .is);
-    }
-
-  pub asked-all : {v : ℕ} → Asked i p kept v → 28 < v → kept ≡ firstBroken (drop 1 rules) i p kept
-  unfolding firstBroken
-  asked-all {v} h past =
-      let behind : length rules ≤ v - 9 = omega (arith, rules-length) in
-      let none : drop (v - 9) rules ≡ [] = drop-of-length-le rules behind in
-      sym (ap (λ (rs : List meant.Rule). firstBroken rs i p kept) none) ∙ h .is
-
--- ---- 9, and then the others
-module _ (i : Instance) (p : List Stack) where
-  abbrev accepted : Answer
-  accepted = acceptance (cost i p) (length (usedTrucks p))
-
-  -- the first row
-  abbrev once : meant.Rule
-  once = record { verdict = 9; places = notOnce }
-
-  table : firstBroken (once ∷ drop 1 rules) i p accepted ≡ firstBroken rules i p accepted
-  unfolding rules itemRules
-  table = refl
-
-  pub once-broken : {found : Found} (q : Place) → found ≡ lowestIn (notOnce i p) → found ≡ At q → refusal 9 q ≡ verdictOn i p
-  unfolding verdictOn
-  once-broken q e f = rule-broken once (drop 1 rules) i p accepted q (sym f ∙ e) ∙ table
-
-  pub once-kept : {found : Found} → found ≡ lowestIn (notOnce i p) → found ≡ Nothing → firstBroken (drop 1 rules) i p accepted ≡ verdictOn i p
-  unfolding verdictOn
-  once-kept e f = sym (rule-kept once (drop 1 rules) i p accepted (sym f ∙ e)) ∙ table
+  pub truck-broken : {rule : Rule} (each : TruckRule) {found : Found} → rule ≡ OfTrucks each → Tells rule i p f → keptBy rule f ≡ false
+      → found ≡ truckFound each f → At (placeIn found) ≡ lowestIn (rulePlaces rule i p)
+  truck-broken each {found} e h broken is = rw e (rw (← is) at (found-some (truckFound each f) (rw e at broken) ∙ (rw e at h)))

@@ -1,57 +1,161 @@
--- The rules 10 to 28 by the names that the code has for them, in the order of the verdict table.
+-- What is asked of the used trucks and what they answer, rule by rule.
 use mathlib.Core.Path.{_≡_}
-use mathlib.Core.Bool.{true}
-use mathlib.Core.List.{List, [], _∷_}
-use Prim.Native.Nat.{ℕ, _-_}
-use lib.ListN.{getD}
+use mathlib.Core.Logic.{_↔_, _⊎_}
+use mathlib.Core.Bool.{Bool, true, false, _&&_}
+use mathlib.Core.List.{List, []}
+use Prim.Native.Nat.{ℕ, _≤_, _<_}
+use lib.ListN.{length}
 use Rattle.meaning.specs.declared.Place.{Place}
+use Rattle.meaning.specs.Lists.{sum}
+use Rattle.meaning.specs.Places.{place}
 use Rattle.meaning.specs.Model.{Instance, Stack}
-use Rattle.meaning.specs.Measures.{UsedTruck}
-use Rattle.meaning.specs.Rules.{pairPlaces, stackPlaces, truckPlaces, departurePlaces, braced, noAmount, withinLoadLimit}
-use Rattle.stackrules.specs.declared.ItemRule.the-variants.{Plant, Product, Supplier, Day, Dock, Mixed, Turned}
-use Rattle.stackrules.specs.declared.StackRule.the-variants.{EachItem, Docks, TopHeavy, TooMany, Dense, Outside}
-use Rattle.stackrules.specs.StackRules.{stackRulePlaces, StacksKept}
-use Rattle.pairrules.specs.declared.PairRule.the-variants.{SecondPair, Overlap, Order}
-use Rattle.pairrules.specs.PairRules.{pairTest}
-use Rattle.axles.specs.declared.Axle.the-variants.{Middle, Rear}
-use Rattle.axles.specs.Aboard.{axleTest, AxlesKept}
-use Rattle.sweep.specs.Along.{Settled}
-use Rattle.judging.specs.declared.Kept.{Kept}
-use Rattle.judging.specs.declared.TruckRule.{TruckRule}
-use Rattle.judging.specs.declared.TruckRule.the-variants.{EachPair, Unbraced, Overload, EachDeparture}
-use Rattle.judging.specs.declared.Rule.{Rule}
-use Rattle.judging.specs.declared.Rule.the-variants.{OfStacks, OfTrucks}
+use Rattle.meaning.specs.Measures.{usedTrucks}
+use Rattle.meaning.specs.Rules.{truckPlaces, departurePlaces, withinLoadLimit, middleAxleHolds, rearAxleHolds}
+use Rattle.meaning.specs.Verdict.{transportCost}
+use Rattle.search.specs.declared.Found.{Found}
+use Rattle.search.specs.declared.Found.the-variants.{At, Nothing}
+use Rattle.search.specs.Lowest.{lowestIn, lowerFound}
+use Rattle.rules.specs.declared.Rule.{Rule}
+use Rattle.rules.specs.declared.Rule.the-variants.{OfStacks, OfPairs, OfTrucks}
+use Rattle.rules.specs.declared.PairRule.{PairRule}
+use Rattle.rules.specs.declared.PairRule.the-variants.{SecondPair, Overlap, Order}
+use Rattle.rules.specs.declared.TruckRule.{TruckRule}
+use Rattle.rules.specs.declared.TruckRule.the-variants.{Unbraced, Overload, Middle, Rear}
+use Rattle.rules.specs.LoadingRules.{rulePlaces, onStack, ruleAt}
+use Rattle.placement.specs.declared.Placement.{Placement}
+use Rattle.axles.specs.declared.WeightPlaces.{WeightPlaces}
+use Rattle.judging.specs.declared.Asked.{Asked}
+use Rattle.judging.specs.declared.Findings.{Findings}
 
--- where a rule on used trucks is broken: 17, 23 and 25 on pairs, 24 unbraced, 26 overload, 27 and 28 at departures
-abbrev pub truckRulePlaces : TruckRule → Instance → List Stack → List Place
-truckRulePlaces (EachPair rule) i p = pairPlaces (pairTest rule) i p
-truckRulePlaces Unbraced i p = stackPlaces braced noAmount i p
-truckRulePlaces Overload i p = truckPlaces withinLoadLimit i p
-truckRulePlaces (EachDeparture axle) i p = departurePlaces (axleTest axle) i p
+-- ---- what is asked
+-- whether a rule is asked of the used trucks; a rule on single stacks is not
+abbrev pub isAsked : Asked → Rule → Bool
+isAsked asked (OfStacks rule) = false
+isAsked asked (OfPairs SecondPair) = asked .«single_pair»
+isAsked asked (OfPairs Overlap) = asked .placement
+isAsked asked (OfPairs Order) = asked .placement
+isAsked asked (OfTrucks Unbraced) = asked .placement
+isAsked asked (OfTrucks Overload) = asked .weights
+isAsked asked (OfTrucks Middle) = asked .weights
+isAsked asked (OfTrucks Rear) = asked .weights
 
--- where a rule is broken
-abbrev pub rulePlaces : Rule → Instance → List Stack → List Place
-rulePlaces (OfStacks rule) i p = stackRulePlaces rule i p
-rulePlaces (OfTrucks rule) i p = truckRulePlaces rule i p
+-- what is asked, with one kind more
+abbrev pub withPlacement : Asked → Asked
+withPlacement asked = record { «single_pair» = asked .«single_pair»; placement = true; weights = asked .weights }
 
--- 10 to 28
-abbrev pub laterRules : List Rule
-laterRules =
-    OfStacks (EachItem Plant) ∷ OfStacks (EachItem Product) ∷ OfStacks (EachItem Supplier) ∷ OfStacks (EachItem Day) ∷ OfStacks (EachItem Dock)
-    ∷ OfStacks (EachItem Mixed) ∷ OfStacks Docks ∷ OfTrucks (EachPair SecondPair) ∷ OfStacks (EachItem Turned) ∷ OfStacks TopHeavy ∷ OfStacks TooMany
-    ∷ OfStacks Dense ∷ OfStacks Outside ∷ OfTrucks (EachPair Overlap) ∷ OfTrucks Unbraced ∷ OfTrucks (EachPair Order) ∷ OfTrucks Overload
-    ∷ OfTrucks (EachDeparture Middle) ∷ OfTrucks (EachDeparture Rear) ∷ []
+-- the same for the weight rules
+abbrev pub withWeights : Asked → Asked
+withWeights asked = record { «single_pair» = asked .«single_pair»; placement = asked .placement; weights = true }
 
--- the rule of a verdict from 10 to 28; another number has none, and the last one stands in
-abbrev pub ruleOf : ℕ → Rule
-ruleOf verdict = getD laterRules (verdict - 10) (OfTrucks (EachDeparture Rear))
+-- with the kind of one rule on pairs more
+abbrev pub withPairRule : Asked → PairRule → Asked
+withPairRule asked SecondPair = record { «single_pair» = true; placement = asked .placement; weights = asked .weights }
+withPairRule asked Overlap = withPlacement asked
+withPairRule asked Order = withPlacement asked
 
--- a plan keeps the rules that are held for kept
-pub record IsKept (kept : Kept) (i : Instance) (p : List Stack) : Type 0 where
-  pub stacks : kept .stacks ≡ true → StacksKept i p
-  pub pairs : kept .pairs ≡ true → Settled i p
-  pub axles : kept .axles ≡ true → AxlesKept i p
+-- with that of one rule on all stacks of a used truck more
+abbrev pub withTruckRule : Asked → TruckRule → Asked
+withTruckRule asked Unbraced = withPlacement asked
+withTruckRule asked Overload = withWeights asked
+withTruckRule asked Middle = withWeights asked
+withTruckRule asked Rear = withWeights asked
 
--- a used truck by its truck and copy
-abbrev pub usedTruck : ℕ → ℕ → UsedTruck
-usedTruck truck copy = record { truck = truck; copy = copy }
+-- with that of any rule more
+abbrev pub withRule : Asked → Rule → Asked
+withRule asked (OfStacks rule) = asked
+withRule asked (OfPairs rule) = withPairRule asked rule
+withRule asked (OfTrucks rule) = withTruckRule asked rule
+
+-- every rule below a rank is on single stacks or is asked
+pub record AskedBelow (rank : ℕ) (asked : Asked) : Type 0 where
+  pub each : (k : ℕ) → k < rank → onStack (ruleAt k) ≡ true ⊎ isAsked asked (ruleAt k) ≡ true
+
+-- ---- what is answered
+-- whether a rule on pairs is kept
+abbrev pub pairKept : PairRule → Findings → Bool
+pairKept SecondPair f = f .«single_pair»
+pairKept Overlap f = f .placement .apart
+pairKept Order f = f .placement .«in_order»
+
+-- the lowest place of a rule on all stacks of a used truck
+abbrev pub truckFound : TruckRule → Findings → Found
+truckFound Unbraced f = f .placement .unbraced
+truckFound Overload f = f .weights .overload
+truckFound Middle f = f .weights .middle
+truckFound Rear f = f .weights .rear
+
+-- a search found nothing
+abbrev pub nothing : Found → Bool
+nothing (At p) = false
+nothing Nothing = true
+
+-- whether a rule is kept, as far as the used trucks tell; of rules on single stacks they tell nothing
+abbrev pub keptBy : Rule → Findings → Bool
+keptBy (OfStacks rule) f = true
+keptBy (OfPairs rule) f = pairKept rule f
+keptBy (OfTrucks rule) f = nothing (truckFound rule f)
+
+-- the answer on a rule is right: a yes where no place is listed and nowhere else, or the lowest place
+abbrev pub Tells : Rule → Instance → List Stack → Findings → Type 0
+Tells (OfStacks rule) i p f = Unit {0}
+Tells (OfPairs rule) i p f = (pairKept rule f ≡ true) ↔ (rulePlaces (OfPairs rule) i p ≡ [])
+Tells (OfTrucks rule) i p f = truckFound rule f ≡ lowestIn (rulePlaces (OfTrucks rule) i p)
+
+-- of no used truck: every rule is kept
+abbrev pub noFindings : Findings
+noFindings = record {
+  «single_pair» = true;
+  placement = record { apart = true; «in_order» = true; unbraced = Nothing };
+  weights = record { overload = Nothing; middle = Nothing; rear = Nothing };
+}
+
+-- the placement rules on two parts of a plan that share no used truck
+abbrev pub joinedPlacement : Placement → Placement → Placement
+joinedPlacement a b = record {
+  apart = a .apart && b .apart;
+  «in_order» = a .«in_order» && b .«in_order»;
+  unbraced = lowerFound (a .unbraced) (b .unbraced);
+}
+
+-- and the weight rules
+abbrev pub joinedWeights : WeightPlaces → WeightPlaces → WeightPlaces
+joinedWeights a b = record {
+  overload = lowerFound (a .overload) (b .overload);
+  middle = lowerFound (a .middle) (b .middle);
+  rear = lowerFound (a .rear) (b .rear);
+}
+
+-- and all of them
+abbrev pub joined : Findings → Findings → Findings
+joined a b = record {
+  «single_pair» = a .«single_pair» && b .«single_pair»;
+  placement = joinedPlacement (a .placement) (b .placement);
+  weights = joinedWeights (a .weights) (b .weights);
+}
+
+-- the lowest places of the weight rules
+pub record WeightsOf (i : Instance) (p : List Stack) (w : WeightPlaces) : Type 0 where
+  pub overload : w .overload ≡ lowestIn (truckPlaces withinLoadLimit i p)
+  pub middle : w .middle ≡ lowestIn (departurePlaces middleAxleHolds i p)
+  pub rear : w .rear ≡ lowestIn (departurePlaces rearAxleHolds i p)
+
+-- the answers on all rules that are asked
+pub record TellsAsked (asked : Asked) (i : Instance) (p : List Stack) (f : Findings) : Type 0 where
+  pub each : (rule : Rule) → isAsked asked rule ≡ true → Tells rule i p f
+
+-- how many used trucks a plan has, and what they cost together
+pub record CountsTrucks (i : Instance) (p : List Stack) (count cost : ℕ) : Type 0 where
+  pub counted : count ≡ length (usedTrucks p)
+  pub paid : cost ≡ sum (transportCost i) (usedTrucks p)
+  pub few : cost ≤ 4194304000000000
+
+-- the first rank below `upto` at which the used trucks tell of a broken rule, or `upto`
+pub record FirstRank (f : Findings) (upto rank : ℕ) : Type 0 where
+  pub within : rank ≤ upto
+  pub kept : (k : ℕ) → k < rank → keptBy (ruleAt k) f ≡ true
+  pub broken : rank < upto → keptBy (ruleAt rank) f ≡ false
+
+-- the place that a search found; zeros where it found none
+abbrev pub placeIn : Found → Place
+placeIn (At p) = p
+placeIn Nothing = place 0 0 0

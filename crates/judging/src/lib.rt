@@ -1,335 +1,374 @@
-// The verdict on a plan that was read: the first broken rule of 9 to 28 with its lowest place, or the cost and the number of used trucks.
+// The verdict on a plan that was read: the first broken rule of the verdict table with its lowest place, or the cost and the number of used
+// trucks. Rule 9 is asked first; the others are the loading rules, whose order is told by their ranks.
 ghost use mathlib.Core.Path.{_≡_};
+ghost use mathlib.Core.Logic.{_↔_};
 ghost use mathlib.Core.Bool.{true};
-ghost use Prim.Native.Nat.{_-_, _*_, _≤_, _<_};
-ghost use lib.ListN.{length, drop};
-ghost use Rattle.meaning.specs.Lists.{sum};
-ghost use Rattle.meaning.specs.Measures.{usedTrucks};
-ghost use Rattle.meaning.specs.Rules.{rules};
+ghost use mathlib.Core.List.{[]};
+ghost use Prim.Native.Nat.{_+_, _-_, _*_, _≤_, _<_};
+ghost use lib.ListN.{length};
+ghost use Rattle.meaning.specs.Measures.{usedBy, usedTrucks};
+ghost use Rattle.meaning.specs.Rules.{loadingRules, pairPlaces, singlePair};
 ghost use Rattle.meaning.specs.Table.{instanceIn, stacksIn};
-ghost use Rattle.meaning.specs.Verdict.{refusal, acceptance, firstBroken, cost, transportCost, inventoryCost, verdictOn};
-ghost use Rattle.table.specs.Filled.{Filled, stackAt, TruckNumber};
+ghost use Rattle.meaning.specs.Verdict.{refusal, acceptance, firstBroken, transportCost, cost, verdictOn};
 ghost use Rattle.search.specs.Lowest.{lowestIn};
-ghost use Rattle.visits.specs.Visits.{block, HoldsRows, OneTruck};
-ghost use Rattle.axles.specs.Aboard.{AxlesKept};
-ghost use Rattle.sweep.specs.Along.{Settled};
-ghost use Rattle.judging.specs.Judging.{truckRulePlaces, rulePlaces, ruleOf, IsKept, usedTruck};
-use axles::Axle;
-use axles::axles_hold;
-use axles::lowest_departure;
-use axles::overload_place;
+ghost use Rattle.rules.specs.LoadingRules.{rulePlaces, ruleCount};
+ghost use Rattle.rules.specs.declared.Rule.the-variants.{OfPairs};
+ghost use Rattle.table.specs.Filled.{Filled};
+ghost use Rattle.visits.specs.Visits.{visitAt, block, HoldsRows, OneTruck};
+ghost use Rattle.placement.specs.Placed.{TruckRows, PlacedRows};
+ghost use Rattle.judging.specs.Judging.{withPlacement, withWeights, withPairRule, withTruckRule, withRule, AskedBelow, joinedPlacement, joinedWeights, WeightsOf, TellsAsked, CountsTrucks};
+ghost use Rattle.judging.specs.Judging.{pairKept, truckFound, keptBy, FirstRank, placeIn};
+use axles::WeightPlaces;
+use axles::truck_weights;
+use costs::plan_cost;
+use costs::truck_cost;
 use meaning::Answer;
 use meaning::Limits;
 use meaning::Place;
-use pairrules::PairRule;
 use pairrules::first_pair;
-use pairrules::first_unbraced;
+use pairrules::keeps_single_pair;
+use pairrules::order_by;
+use placement::Placement;
+use placement::truck_placement;
+use rules::PairRule;
+use rules::RULES;
+use rules::Rule;
+use rules::TruckRule;
+use rules::rule_at;
+use rules::verdict_at;
 use search::Found;
+use search::is_nothing;
 use search::lower_of;
-use stackrules::ItemRule;
-use stackrules::StackRule;
+use stackrules::first_on_stacks;
 use stackrules::lowest_not_once;
-use stackrules::lowest_stack;
-use stackrules::stacks_keep_rules;
-use sweep::is_settled;
-use table::extra_coefficient;
-use table::fields::IC;
-use table::fields::IDL;
-use table::fields::TC;
-use table::fields::TDA;
-use table::inventory_coefficient;
-use table::item_field;
-use table::load_count;
-use table::load_entry;
 use table::stack_count;
-use table::transport_coefficient;
-use table::truck_field;
-use views::stack_truck_field;
+use visits::Block;
 use visits::row;
 use visits::row_word;
-use visits::truck_at;
 use visits::truck_start;
 use visits::visit_stacks;
 
-// ---- the rules on each used truck: 17 and 23 to 28
+// ---- what is asked of the used trucks
 
-// The rules on a used truck.
-enum TruckRule {
-    EachPair(PairRule),
-    Unbraced, // 24
-    Overload, // 26
-    EachDeparture(Axle),
+// The kinds of rules that are asked of the used trucks.
+struct Asked {
+    single_pair: bool, // 17
+    placement: bool, // 23 to 25
+    weights: bool, // 26 to 28
 }
 
-// Where the stacks of one used truck, visited from place `start` up to `end`, break a rule.
-fn truck_place(
-    rule: TruckRule,
-    t: &[u32],
-    limits: Limits,
-    rows: &[u32],
-    start: usize,
-    end: usize,
-) -> Found
-    requires { ⌜ HoldsRows limits (now t) (now rows) × OneTruck (stacksIn limits (now t)) start end ⌝ }
-    ensures { λ r. ⌜ r ≡ lowestIn (truckRulePlaces rule (instanceIn limits (now (t .entry)))
-        (block (stacksIn limits (now (t .entry))) start end)) ⌝ }
+// What is asked, and the placement rules besides.
+fn with_placement(asked: Asked) -> Asked
+    ensures { λ r. ⌜ r ≡ withPlacement asked ⌝ }
+{
+    Asked {
+        single_pair: asked.single_pair,
+        placement: true,
+        weights: asked.weights,
+    }
+}
+
+// What is asked, and the weight rules besides.
+fn with_weights(asked: Asked) -> Asked
+    ensures { λ r. ⌜ r ≡ withWeights asked ⌝ }
+{
+    Asked {
+        single_pair: asked.single_pair,
+        placement: asked.placement,
+        weights: true,
+    }
+}
+
+// What is asked, and the kind of one rule on pairs besides.
+fn with_pair_rule(asked: Asked, rule: PairRule) -> Asked
+    ensures { λ r. ⌜ r ≡ withPairRule asked rule ⌝ }
 {
     match rule {
-        TruckRule::EachPair(each) => first_pair(each, t, limits, rows, start, end),
-        TruckRule::Unbraced => first_unbraced(t, limits, rows, start, end),
-        TruckRule::Overload => overload_place(t, limits, rows, start, end),
-        TruckRule::EachDeparture(axle) => lowest_departure(axle, t, limits, rows, start, end),
+        PairRule::SecondPair => Asked {
+            single_pair: true,
+            placement: asked.placement,
+            weights: asked.weights,
+        },
+        PairRule::Overlap => with_placement(asked),
+        PairRule::Order => with_placement(asked),
     }
 }
 
-// The lowest place where a rule on used trucks is broken.
-fn lowest_truck(rule: TruckRule, t: &[u32], limits: Limits, rows: &[u32]) -> Found
-    requires { ⌜ HoldsRows limits (now t) (now rows) ⌝ }
-    ensures { λ r. ⌜ r ≡ lowestIn (truckRulePlaces rule (instanceIn limits (now (t .entry))) (stacksIn limits (now (t .entry)))) ⌝ }
+// What is asked, and the kind of one rule on all stacks of a used truck besides.
+fn with_truck_rule(asked: Asked, rule: TruckRule) -> Asked
+    ensures { λ r. ⌜ r ≡ withTruckRule asked rule ⌝ }
 {
-    let mut found = Found::Nothing;
-    let mut end = stack_count(t, limits);
-    while 0 < end {
-        let start = truck_start(t, limits, rows, end);
-        found = lower_of(truck_place(rule, t, limits, rows, start, end), found);
-        end = start;
+    match rule {
+        TruckRule::Unbraced => with_placement(asked),
+        TruckRule::Overload => with_weights(asked),
+        TruckRule::Middle => with_weights(asked),
+        TruckRule::Rear => with_weights(asked),
     }
-    found
 }
 
-// Whether rules 23 to 25 are known to be kept. Most plans keep them, and a sweep along the trailer tells so without looking at every pair;
-// only where it cannot, the searches for the lowest place are asked. The keys and the places along the trailer are scratch.
-fn pairs_settled(
-    t: &[u32],
-    limits: Limits,
-    rows: &[u32],
-    keys: &mut [u64],
-    along: &mut [u32],
-) -> bool
-    requires { ⌜ HoldsRows limits (now t) (now rows) × (length (stacksIn limits (now t)) ≤ length (now keys))
-        × (length (stacksIn limits (now t)) ≤ length (now along)) ⌝ }
-    ensures { λ r. ⌜ (r ≡ true → Settled (instanceIn limits (now (t .entry))) (stacksIn limits (now (t .entry)))) ⌝ }
+// What is asked, and the kind of one rule besides. A rule on single stacks is not asked of the used trucks.
+fn with_rule(asked: Asked, rule: Rule) -> Asked
+    ensures { λ r. ⌜ r ≡ withRule asked rule ⌝ }
 {
-    let mut end = stack_count(t, limits);
-    while 0 < end {
-        let start = truck_start(t, limits, rows, end);
-        if !is_settled(t, limits, rows, start, end, keys, along) {
-            return false;
-        }
-        end = start;
+    match rule {
+        Rule::OfStacks(_) => asked,
+        Rule::OfPairs(pair) => with_pair_rule(asked, pair),
+        Rule::OfTrucks(each) => with_truck_rule(asked, each),
     }
-    true
 }
 
-// Whether rules 27 and 28 are known to be kept: where the axles of every used truck hold at every departure.
-fn axles_kept(t: &[u32], limits: Limits, rows: &[u32]) -> bool
-    requires { ⌜ HoldsRows limits (now t) (now rows) ⌝ }
-    ensures { λ r. ⌜ (r ≡ true → AxlesKept (instanceIn limits (now (t .entry))) (stacksIn limits (now (t .entry)))) ⌝ }
+// The kinds of the rules before a rank. A rule that comes later need not be asked where one of that rank is broken.
+fn kinds_below(rank: usize) -> Asked
+    requires { ⌜ rank ≤ ruleCount ⌝ }
+    ensures { λ r. ⌜ AskedBelow rank r ⌝ }
 {
-    let mut end = stack_count(t, limits);
-    while 0 < end {
-        let start = truck_start(t, limits, rows, end);
-        if !axles_hold(t, limits, rows, start, end) {
-            return false;
-        }
-        end = start;
+    let mut asked = Asked {
+        single_pair: false,
+        placement: false,
+        weights: false,
+    };
+    let mut k = 0;
+    while k < rank {
+        asked = with_rule(asked, rule_at(k));
+        k += 1;
     }
-    true
+    asked
 }
 
-// ---- cost and used trucks
+// ---- what the used trucks answer
 
-// The days that an item arrives before its latest day. Rule 13 keeps it from arriving later.
-fn days_early(latest: u32, arrival: u32) -> u32
-    ensures { λ r. ⌜ (r ≡ latest - arrival) × (r ≤ latest) ⌝ }
-{
-    if latest < arrival {
-        return 0;
-    }
-    latest - arrival
-}
-
-// The inventory cost of a stack, for each unit of its coefficient.
-fn stack_inventory(t: &[u32], limits: Limits, s: usize) -> u64
-    requires { ⌜ Filled limits (now t) × (s < length (stacksIn limits (now t))) ⌝ }
-    ensures { λ r. ⌜ (r ≡ inventoryCost (instanceIn limits (now (t .entry))) (stackAt (stacksIn limits (now (t .entry))) s))
-        × (r ≤ 39900000 * length (stackAt (stacksIn limits (now (t .entry))) s .load)) ⌝ }
-{
-    let arrival = stack_truck_field(t, limits, s, TDA);
-    let mut sum: u64 = 0;
-    let mut j = load_count(t, limits, s);
-    while 0 < j {
-        j -= 1;
-        let n = load_entry(t, limits, s, j);
-        let days = days_early(item_field(t, limits, n, IDL), arrival);
-        sum = (item_field(t, limits, n, IC) as u64) * (days as u64) + sum;
-    }
-    sum
-}
-
-// The inventory cost of all stacks.
-fn inventory_sum(t: &[u32], limits: Limits) -> u64
-    requires { ⌜ Filled limits (now t) ⌝ }
-    ensures { λ r. ⌜ (r ≡ sum (inventoryCost (instanceIn limits (now (t .entry)))) (stacksIn limits (now (t .entry))))
-        × (r ≤ 2614886400000) ⌝ }
-{
-    let mut sum: u64 = 0;
-    let mut s = stack_count(t, limits);
-    while 0 < s {
-        s -= 1;
-        sum = stack_inventory(t, limits, s) + sum;
-    }
-    sum
-}
-
-// The cost of a used truck in thousandths; an extra one costs more.
-fn truck_cost(t: &[u32], limits: Limits, truck: u32, copy: u32) -> u64
-    requires { ⌜ Filled limits (now t) × TruckNumber (instanceIn limits (now t)) truck ⌝ }
-    ensures { λ r. ⌜ (r ≡ transportCost (instanceIn limits (now (t .entry))) (usedTruck truck copy)) × (r ≤ 2000000000) ⌝ }
-{
-    let cost = truck_field(t, limits, truck, TC) as u64;
-    if copy == 0 {
-        return cost * 1000;
-    }
-    cost * (1000 + (extra_coefficient(t, limits) as u64))
-}
-
-// How many trucks are used, and what they cost together in thousandths.
+// The used trucks of a plan: how many, and what they cost together in thousandths.
 struct UsedTrucks {
     count: u32,
     cost: u64,
 }
 
-// The used trucks of a plan, each once.
-fn sum_trucks(t: &[u32], limits: Limits, rows: &[u32]) -> UsedTrucks
-    requires { ⌜ HoldsRows limits (now t) (now rows) ⌝ }
-    ensures { λ r. ⌜ (r .count ≡ length (usedTrucks (stacksIn limits (now (t .entry)))))
-        × (r .cost ≡ sum (transportCost (instanceIn limits (now (t .entry)))) (usedTrucks (stacksIn limits (now (t .entry)))))
-        × (r .cost ≤ 4194304000000000) ⌝ }
-{
-    let mut count: u32 = 0;
-    let mut cost: u64 = 0;
-    let mut end = stack_count(t, limits);
-    while 0 < end {
-        let start = truck_start(t, limits, rows, end);
-        let truck = truck_at(t, limits, rows, start);
-        count += 1;
-        cost = truck_cost(
-            t,
-            limits,
-            truck,
-            row_word(t, limits, rows, start, row::COPY),
-        )
-            + cost;
-        end = start;
-    }
-    UsedTrucks { count, cost }
+// What the used trucks keep and break, of the kinds that were asked.
+struct Findings {
+    single_pair: bool, // 17 is kept
+    placement: Placement, // 23 and 25 are kept, and where 24 is broken
+    weights: WeightPlaces, // where 26 to 28 are broken
 }
 
-// The answer on a plan that keeps every rule.
-fn accept(t: &[u32], limits: Limits, rows: &[u32]) -> Answer
-    requires { ⌜ HoldsRows limits (now t) (now rows) ⌝ }
-    ensures { λ r. ⌜ r ≡ acceptance (cost (instanceIn limits (now (t .entry))) (stacksIn limits (now (t .entry))))
-        (length (usedTrucks (stacksIn limits (now (t .entry))))) ⌝ }
+// All that a walk over the used trucks tells.
+struct TrucksAsked {
+    found: Findings,
+    used: UsedTrucks,
+}
+
+// The placement rules on two parts of a plan that share no used truck.
+fn joined_placement(a: Placement, b: Placement) -> Placement
+    ensures { λ r. ⌜ r ≡ joinedPlacement a b ⌝ }
 {
-    let used = sum_trucks(t, limits, rows);
-    let inventory = inventory_sum(t, limits);
-    let transport_share = (transport_coefficient(t, limits) as u64) * used.cost;
-    let inventory_share = 1000 * (inventory_coefficient(t, limits) as u64) * inventory;
-    Answer {
-        number: 0,
-        first: 0,
-        second: 0,
-        third: 0,
-        cost: transport_share + inventory_share,
-        trucks: used.count,
+    let first = a.unbraced;
+    let second = b.unbraced;
+    Placement {
+        apart: a.apart & b.apart,
+        in_order: a.in_order & b.in_order,
+        unbraced: lower_of(first, second),
     }
+}
+
+// The weight rules on two parts of a plan that share no used truck.
+fn joined_weights(a: WeightPlaces, b: WeightPlaces) -> WeightPlaces
+    ensures { λ r. ⌜ r ≡ joinedWeights a b ⌝ }
+{
+    let overload = a.overload;
+    let middle = a.middle;
+    let rear = a.rear;
+    let other_overload = b.overload;
+    let other_middle = b.middle;
+    let other_rear = b.rear;
+    WeightPlaces {
+        overload: lower_of(overload, other_overload),
+        middle: lower_of(middle, other_middle),
+        rear: lower_of(rear, other_rear),
+    }
+}
+
+// Rule 17 on one used truck, where it is asked.
+fn asked_single_pair(asked: bool, t: &[u32], limits: Limits, rows: &[u32], on: Block) -> bool
+    requires { ⌜ HoldsRows limits (now t) (now rows) × OneTruck (stacksIn limits (now t)) (on .start) (on .end) ⌝ }
+    ensures { λ r. ⌜ (asked ≡ true → (r ≡ true) ↔ (pairPlaces singlePair (instanceIn limits (now (t .entry)))
+        (block (stacksIn limits (now (t .entry))) (on .start) (on .end)) ≡ [])) ⌝ }
+{
+    if asked {
+        return keeps_single_pair(t, limits, rows, on);
+    }
+    true
+}
+
+// The placement rules on one used truck, where they are asked. The keys and the places along the trailer are scratch.
+fn asked_placement(
+    asked: bool,
+    rows: &[u32],
+    on: Block,
+    keys: &mut [u64],
+    along: &mut [u32],
+) -> Placement {
+    if asked {
+        return truck_placement(rows, on, keys, along);
+    }
+    Placement {
+        apart: true,
+        in_order: true,
+        unbraced: Found::Nothing,
+    }
+}
+
+// The weight rules on one used truck, where they are asked.
+fn asked_weights(asked: bool, t: &[u32], limits: Limits, rows: &[u32], on: Block) -> WeightPlaces
+    requires { ⌜ HoldsRows limits (now t) (now rows) × OneTruck (stacksIn limits (now t)) (on .start) (on .end) ⌝ }
+    ensures { λ r. ⌜ (asked ≡ true → WeightsOf (instanceIn limits (now (t .entry)))
+        (block (stacksIn limits (now (t .entry))) (on .start) (on .end)) r) ⌝ }
+{
+    if asked {
+        return truck_weights(t, limits, rows, on);
+    }
+    WeightPlaces {
+        overload: Found::Nothing,
+        middle: Found::Nothing,
+        rear: Found::Nothing,
+    }
+}
+
+// The used trucks with one more, whose stacks begin at place `start`.
+fn with_truck(used: UsedTrucks, t: &[u32], limits: Limits, rows: &[u32], start: usize) -> UsedTrucks
+    requires { ⌜ HoldsRows limits (now t) (now rows) × (start < length (stacksIn limits (now t))) × (used .count ≤ 2097152)
+        × (used .cost ≤ 4194304000000000) ⌝ }
+    ensures { λ r. ⌜ (r .count ≡ used .count + 1) × (r .cost ≡ transportCost (instanceIn limits (now (t .entry)))
+        (usedBy (visitAt (stacksIn limits (now (t .entry))) start)) + used .cost) × (r .cost ≤ used .cost + 2000000000) ⌝ }
+{
+    let truck = row_word(rows, start, row::TRUCK);
+    let copy = row_word(rows, start, row::COPY);
+    UsedTrucks {
+        count: used.count + 1,
+        cost: truck_cost(t, limits, truck, copy) + used.cost,
+    }
+}
+
+// The used trucks, from the last to the first, each asked once for all that is asked. The keys and the places along the trailer are scratch.
+fn ask_trucks(
+    asked: Asked,
+    t: &[u32],
+    limits: Limits,
+    rows: &[u32],
+    keys: &mut [u64],
+    along: &mut [u32],
+) -> TrucksAsked
+    requires { ⌜ HoldsRows limits (now t) (now rows) × (length (stacksIn limits (now t)) ≤ length (now keys))
+        × (length (stacksIn limits (now t)) ≤ length (now along)) ⌝ }
+    ensures told { λ r. ⌜ TellsAsked asked (instanceIn limits (now (t .entry))) (stacksIn limits (now (t .entry))) (r .found)
+        × CountsTrucks (instanceIn limits (now (t .entry))) (stacksIn limits (now (t .entry))) (r .used .count) (r .used .cost) ⌝ }
+    ensures lengths { λ _. ⌜ (length (now (keys .exit)) ≡ length (now (keys .entry))) × (length (now (along .exit)) ≡ length (now (along .entry))) ⌝ }
+{
+    let mut single_pair = true;
+    let mut placement = Placement {
+        apart: true,
+        in_order: true,
+        unbraced: Found::Nothing,
+    };
+    let mut weights = WeightPlaces {
+        overload: Found::Nothing,
+        middle: Found::Nothing,
+        rear: Found::Nothing,
+    };
+    let mut used = UsedTrucks { count: 0, cost: 0 };
+    let mut end = stack_count(t, limits);
+    while 0 < end {
+        let start = truck_start(rows, end);
+        let on = Block { start, end };
+        single_pair = asked_single_pair(asked.single_pair, t, limits, rows, on) & single_pair;
+        placement = joined_placement(
+            asked_placement(asked.placement, rows, on, keys, along),
+            placement,
+        );
+        weights = joined_weights(asked_weights(asked.weights, t, limits, rows, on), weights);
+        used = with_truck(used, t, limits, rows, start);
+        end = start;
+    }
+    let found = Findings {
+        single_pair,
+        placement,
+        weights,
+    };
+    TrucksAsked { found, used }
 }
 
 // ---- the verdict
 
-// A rule of 10 to 28.
-enum Rule {
-    OfStacks(StackRule),
-    OfTrucks(TruckRule),
-}
-
-// The rule of a verdict from 10 to 28, in the order of the verdict table.
-fn rule_of(verdict: u32) -> Rule
-    requires { ⌜ (10 ≤ verdict) × (verdict ≤ 28) ⌝ }
-    ensures { λ r. ⌜ r ≡ ruleOf verdict ⌝ }
+// Whether a rule on pairs is kept.
+fn pair_kept(rule: PairRule, found: Findings) -> bool
+    ensures { λ r. ⌜ r ≡ pairKept rule found ⌝ }
 {
-    match verdict {
-        10 => Rule::OfStacks(StackRule::EachItem(ItemRule::Plant)),
-        11 => Rule::OfStacks(StackRule::EachItem(ItemRule::Product)),
-        12 => Rule::OfStacks(StackRule::EachItem(ItemRule::Supplier)),
-        13 => Rule::OfStacks(StackRule::EachItem(ItemRule::Day)),
-        14 => Rule::OfStacks(StackRule::EachItem(ItemRule::Dock)),
-        15 => Rule::OfStacks(StackRule::EachItem(ItemRule::Mixed)),
-        16 => Rule::OfStacks(StackRule::Docks),
-        17 => Rule::OfTrucks(TruckRule::EachPair(PairRule::SecondPair)),
-        18 => Rule::OfStacks(StackRule::EachItem(ItemRule::Turned)),
-        19 => Rule::OfStacks(StackRule::TopHeavy),
-        20 => Rule::OfStacks(StackRule::TooMany),
-        21 => Rule::OfStacks(StackRule::Dense),
-        22 => Rule::OfStacks(StackRule::Outside),
-        23 => Rule::OfTrucks(TruckRule::EachPair(PairRule::Overlap)),
-        24 => Rule::OfTrucks(TruckRule::Unbraced),
-        25 => Rule::OfTrucks(TruckRule::EachPair(PairRule::Order)),
-        26 => Rule::OfTrucks(TruckRule::Overload),
-        27 => Rule::OfTrucks(TruckRule::EachDeparture(Axle::Middle)),
-        _ => Rule::OfTrucks(TruckRule::EachDeparture(Axle::Rear)),
+    let placement = found.placement;
+    match rule {
+        PairRule::SecondPair => found.single_pair,
+        PairRule::Overlap => placement.apart,
+        PairRule::Order => placement.in_order,
     }
 }
 
-// The lowest place where a rule is broken.
-fn lowest_place(rule: Rule, t: &[u32], limits: Limits, rows: &[u32]) -> Found
-    requires { ⌜ HoldsRows limits (now t) (now rows) ⌝ }
-    ensures { λ r. ⌜ r ≡ lowestIn (rulePlaces rule (instanceIn limits (now (t .entry))) (stacksIn limits (now (t .entry)))) ⌝ }
+// The lowest place of a rule on all stacks of a used truck.
+fn truck_found(rule: TruckRule, found: Findings) -> Found
+    ensures { λ r. ⌜ r ≡ truckFound rule found ⌝ }
+{
+    let placement = found.placement;
+    let weights = found.weights;
+    match rule {
+        TruckRule::Unbraced => placement.unbraced,
+        TruckRule::Overload => weights.overload,
+        TruckRule::Middle => weights.middle,
+        TruckRule::Rear => weights.rear,
+    }
+}
+
+// Whether a rule is kept as far as the used trucks tell, which is all but the rules on single stacks.
+fn is_kept(rule: Rule, found: Findings) -> bool
+    ensures { λ r. ⌜ r ≡ keptBy rule found ⌝ }
 {
     match rule {
-        Rule::OfStacks(each) => lowest_stack(each, t, limits, rows),
-        Rule::OfTrucks(each) => lowest_truck(each, t, limits, rows),
+        Rule::OfStacks(_) => true,
+        Rule::OfPairs(pair) => pair_kept(pair, found),
+        Rule::OfTrucks(each) => is_nothing(truck_found(each, found)),
     }
 }
 
-// What is known of a plan before its rules are asked one after another: whether it keeps those on stacks, 10 to 16 and 18 to 22, those along
-// the trailer, 23 to 25, and those on axles, 27 and 28. Most plans keep them all.
-struct Kept {
-    stacks: bool,
-    pairs: bool,
-    axles: bool,
+// The rank of the first rule that the used trucks break, of those below `upto`; `upto` where there is none.
+fn first_rank(found: Findings, upto: usize) -> usize
+    requires { ⌜ upto ≤ ruleCount ⌝ }
+    ensures { λ r. ⌜ FirstRank found upto r ⌝ }
+{
+    let mut rank = 0;
+    while rank < upto {
+        if !is_kept(rule_at(rank), found) {
+            return rank;
+        }
+        rank += 1;
+    }
+    rank
 }
 
-// The walks that tell it. The keys and the places along the trailer are scratch.
-fn rules_kept(t: &[u32], limits: Limits, rows: &[u32], keys: &mut [u64], along: &mut [u32]) -> Kept
+// The lowest pair that breaks a rule. The keys and the order are scratch.
+fn lowest_pair(
+    rule: PairRule,
+    t: &[u32],
+    limits: Limits,
+    rows: &[u32],
+    keys: &mut [u64],
+    order: &mut [u32],
+) -> Found
     requires { ⌜ HoldsRows limits (now t) (now rows) × (length (stacksIn limits (now t)) ≤ length (now keys))
-        × (length (stacksIn limits (now t)) ≤ length (now along)) ⌝ }
-    ensures { λ r. ⌜ IsKept r (instanceIn limits (now (t .entry))) (stacksIn limits (now (t .entry))) ⌝ }
+        × (length (stacksIn limits (now t)) ≤ length (now order)) ⌝ }
+    ensures { λ r. ⌜ r ≡ lowestIn (rulePlaces (OfPairs rule) (instanceIn limits (now (t .entry))) (stacksIn limits (now (t .entry)))) ⌝ }
 {
-    Kept {
-        stacks: stacks_keep_rules(t, limits, rows),
-        pairs: pairs_settled(t, limits, rows, keys, along),
-        axles: axles_kept(t, limits, rows),
-    }
-}
-
-// The lowest place where the rule of a verdict is broken. Where the rule is known to be kept, there is none to look for.
-fn lowest_unsettled(kept: Kept, verdict: u32, t: &[u32], limits: Limits, rows: &[u32]) -> Found
-    requires { ⌜ HoldsRows limits (now t) (now rows) × (10 ≤ verdict) × (verdict ≤ 28)
-        × IsKept kept (instanceIn limits (now t)) (stacksIn limits (now t)) ⌝ }
-    ensures { λ r. ⌜ r ≡ lowestIn (rulePlaces (ruleOf verdict) (instanceIn limits (now (t .entry))) (stacksIn limits (now (t .entry)))) ⌝ }
-{
-    if kept.stacks & ((verdict <= 22) & (verdict != 17)) {
-        return Found::Nothing;
-    }
-    if kept.pairs & ((23 <= verdict) & (verdict <= 25)) {
-        return Found::Nothing;
-    }
-    if kept.axles & (27 <= verdict) {
-        return Found::Nothing;
-    }
-    lowest_place(rule_of(verdict), t, limits, rows)
+    let count = stack_count(t, limits);
+    let all = Block {
+        start: 0,
+        end: count,
+    };
+    order_by(rows, all, row::NUMBER, keys, order);
+    first_pair(rule, t, limits, rows, order)
 }
 
 // The answer on a broken rule.
@@ -346,46 +385,93 @@ fn refuse(verdict: u32, place: Place) -> Answer
     }
 }
 
-// The verdict by rules 10 to 28, each over the whole plan before the next.
-fn judge_visited(kept: Kept, t: &[u32], limits: Limits, rows: &[u32]) -> Answer
-    requires { ⌜ HoldsRows limits (now t) (now rows) × IsKept kept (instanceIn limits (now t)) (stacksIn limits (now t)) ⌝ }
-    ensures { λ r. ⌜ r ≡ firstBroken (drop 1 rules) (instanceIn limits (now (t .entry))) (stacksIn limits (now (t .entry)))
+// The place that a search found.
+fn place_in(found: Found) -> Place
+    ensures { λ r. ⌜ r ≡ placeIn found ⌝ }
+{
+    match found {
+        Found::At(place) => place,
+        Found::Nothing => Place {
+            first: 0,
+            second: 0,
+            third: 0,
+        },
+    }
+}
+
+// The answer on a plan that keeps every rule.
+fn accept(t: &[u32], limits: Limits, used: UsedTrucks) -> Answer
+    requires { ⌜ Filled limits (now t) × CountsTrucks (instanceIn limits (now t)) (stacksIn limits (now t)) (used .count) (used .cost) ⌝ }
+    ensures { λ r. ⌜ r ≡ acceptance (cost (instanceIn limits (now (t .entry))) (stacksIn limits (now (t .entry))))
+        (length (usedTrucks (stacksIn limits (now (t .entry))))) ⌝ }
+{
+    Answer {
+        number: 0,
+        first: 0,
+        second: 0,
+        third: 0,
+        cost: plan_cost(t, limits, used.cost),
+        trucks: used.count,
+    }
+}
+
+// The verdict by the loading rules, each over the whole plan before the next. The rules on single stacks are asked first, in one walk, since
+// most of them come first; of the others only those that come before the first one broken there.
+fn judge_loading(
+    t: &[u32],
+    limits: Limits,
+    rows: &[u32],
+    keys: &mut [u64],
+    order: &mut [u32],
+) -> Answer
+    requires { ⌜ HoldsRows limits (now t) (now rows) × (length (stacksIn limits (now t)) ≤ length (now keys))
+        × (length (stacksIn limits (now t)) ≤ length (now order)) ⌝ }
+    ensures { λ r. ⌜ r ≡ firstBroken loadingRules (instanceIn limits (now (t .entry))) (stacksIn limits (now (t .entry)))
         (acceptance (cost (instanceIn limits (now (t .entry))) (stacksIn limits (now (t .entry))))
         (length (usedTrucks (stacksIn limits (now (t .entry)))))) ⌝ }
 {
-    let mut verdict: u32 = 10;
-    while verdict <= 28 {
-        let found = lowest_unsettled(kept, verdict, t, limits, rows);
-        match found {
-            Found::At(place) => return refuse(verdict, place),
-            Found::Nothing => {}
-        }
-        verdict += 1;
+    let first = first_on_stacks(t, limits, rows);
+    let trucks = ask_trucks(kinds_below(first.rank), t, limits, rows, keys, order);
+    let found = trucks.found;
+    let rank = first_rank(found, first.rank);
+    if rank == RULES {
+        let used = trucks.used;
+        return accept(t, limits, used);
     }
-    accept(t, limits, rows)
+    let place = first.place;
+    let verdict = verdict_at(rank);
+    let rule = rule_at(rank);
+    match rule {
+        Rule::OfStacks(_) => refuse(verdict, place),
+        Rule::OfPairs(pair) => {
+            refuse(
+                verdict,
+                place_in(lowest_pair(pair, t, limits, rows, keys, order)),
+            )
+        }
+        Rule::OfTrucks(each) => refuse(verdict, place_in(truck_found(each, found))),
+    }
 }
 
-// The verdict on the plan of a filled table. The other slices are lent for the search alone: a word for each item, and for each stack a key,
-// a place and the words of its row. What stands in them before and afterwards does not matter.
+// The verdict on the plan of a filled table. The other slices are lent for the search alone: a word for each item and for each stack, and for
+// each stack a key and the words of its row. What stands in them before and afterwards does not matter.
 pub fn judge(
     t: &[u32],
     limits: Limits,
-    times: &mut [u32],
     keys: &mut [u64],
     order: &mut [u32],
     rows: &mut [u32],
 ) -> Answer
-    requires { ⌜ Filled limits (now t) × (length (instanceIn limits (now t) .items) ≤ length (now times))
+    requires { ⌜ Filled limits (now t) × (length (instanceIn limits (now t) .items) ≤ length (now order))
         × (length (stacksIn limits (now t)) ≤ length (now keys)) × (length (stacksIn limits (now t)) ≤ length (now order))
         × (16 * length (stacksIn limits (now t)) ≤ length (now rows)) ⌝ }
     ensures { λ r. ⌜ r ≡ verdictOn (instanceIn limits (now (t .entry))) (stacksIn limits (now (t .entry))) ⌝ }
 {
-    let found = lowest_not_once(t, limits, times);
+    let found = lowest_not_once(t, limits, order);
     match found {
         Found::At(place) => return refuse(9, place),
         Found::Nothing => {}
     }
     visit_stacks(t, limits, keys, order, rows);
-    let kept = rules_kept(t, limits, rows, keys, order);
-    judge_visited(kept, t, limits, rows)
+    judge_loading(t, limits, rows, keys, order)
 }

@@ -16,8 +16,8 @@ use Rattle.meaning.specs.Feasible.{SameTruck, Contact, Chain}
 use Rattle.meaning.proofs.Tests.{and-reads, or-reads}
 use Rattle.meaning.proofs.Lists.{any-reads}
 use Rattle.meaning.proofs.RuleKinds.{another-reads, stacks-kept}
-use Rattle.meaning.proofs.Sound.{Sound}
-use Rattle.meaning.proofs.Extents.{Ends, sound-ends}
+use Rattle.meaning.proofs.WellFormed.{WellFormed}
+use Rattle.meaning.proofs.Extents.{Ends, formed-ends}
 
 -- the rule's test is a contact
 contact-reads : (i : Instance) (s r : Stack) → Ends i s → Ends i r → (inContact i s r ≡ true) ↔ Contact i s r
@@ -46,7 +46,7 @@ chain-in : (i : Instance) (p : List Stack) (s : Stack) (rest : List Stack) → C
 chain-in i p s [] h = h .0
 chain-in i p s (r ∷ rest) h = h .0
 
-module _ (i : Instance) (p : List Stack) (sound : Sound i p) where
+module _ (i : Instance) (p : List Stack) (formed : WellFormed i p) where
   -- another stack of its used truck that holds a stack
   record HeldBy (s : Stack) : Type 0 where
     by : Stack
@@ -56,7 +56,7 @@ module _ (i : Instance) (p : List Stack) (sound : Sound i p) where
     contact : Contact i s by
 
   ends : (s : Stack) → In s p → Ends i s
-  ends s m = sound-ends i s (sound .stacks s m)
+  ends s m = formed-ends i s (formed .stacks s m)
 
   abbrev someBraces : Stack → Bool
   someBraces s = any (bracedBy i s) p
@@ -100,7 +100,7 @@ module _ (i : Instance) (p : List Stack) (sound : Sound i p) where
   chain-holds s m (r ∷ rest) h =
       let n = chain-in i p r rest (h .3) in
       let k = ends r n in
-      let other : number s ≡ number r → ⊥ = λ q. let z : x s ≡ x r = ap x (sound .known s r m n q) in omega (arith, z, h .2 .meets, k .atX, k .long) in
+      let other : number s ≡ number r → ⊥ = λ q. let z : x s ≡ x r = ap x (formed .known s r m n q) in omega (arith, z, h .2 .meets, k .atX, k .long) in
       inr (record { by = r; there = n; together = h .1; other = other; contact = h .2 })
 
   -- 24 unbraced

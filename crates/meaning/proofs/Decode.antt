@@ -10,7 +10,7 @@ use Rattle.meaning.specs.declared.Limits.{Limits}
 use Rattle.meaning.specs.Lists.{Every, chunks, padded}
 use Rattle.meaning.specs.Limits.{itemsAt, trucksAt, stacksAt, loadsAt, named}
 use Rattle.meaning.specs.Model.{Instance, Truck, Stack, Item}
-use Rattle.meaning.specs.Table.{headWords, countedWords, truckWords, stackWords, loadEntries, words, cutLists, truckIn, instanceIn, stackIn, stacksIn}
+use Rattle.meaning.specs.Table.{headWords, countedWords, spareWords, truckWords, stackWords, loadEntries, words, cutLists, truckIn, instanceIn, stackIn, stacksIn}
 use Rattle.meaning.specs.InRange.{TruckFits, Fits}
 use Rattle.meaning.specs.Claims.{Decodes}
 use Rattle.meaning.proofs.Lists.{every-map}
@@ -108,7 +108,7 @@ cut-docks (suc n) (d ∷ ds) rest h k =
 -- its words from each part behind the fields on
 module _ (t : Truck) where
   abbrev plantDockWords : List ℕ
-  plantDockWords = countedWords 25 (t .plantDocks)
+  plantDockWords = countedWords 8 (t .plantDocks) ++ replicate spareWords 0
 
   abbrev pub dockWords : List ℕ
   dockWords = padded 64 (flatMap (padded 8) (t .docks)) ++ plantDockWords
@@ -142,14 +142,16 @@ module _ (t : Truck) (h : TruckFits t) where
       past 8 (padded 8 (map length (t .docks))) (dockWords t) from62
       (length-padded 8 (map length (t .docks)) (omega (arith, length-map (t .docks) length, few-docks)))
 
-  from134 : From (truckWords t) 134 (plantDockWords t ++ [])
+  from134 : From (truckWords t) 134 (plantDockWords t)
   from134 =
       let eights = every-map _ _ (length-padded 8) (t .docks) (h .docks) in
-      last (plantDockWords t)
-      (past 64 (padded 64 (flatMap (padded 8) (t .docks))) (plantDockWords t) from70 (length-runs 8 (padded 8) 8 (t .docks) eights few-docks))
+      past 64 (padded 64 (flatMap (padded 8) (t .docks))) (plantDockWords t) from70 (length-runs 8 (padded 8) 8 (t .docks) eights few-docks)
+
+  from143 : From (truckWords t) 143 (replicate spareWords 0)
+  from143 = past 9 (countedWords 8 (t .plantDocks)) (replicate spareWords 0) from134 (length-counted 8 (t .plantDocks) (h .plantDocks))
 
   truck-size : length (truckWords t) ≡ 160
-  truck-size = length-whole (past 26 (plantDockWords t) [] from134 (length-counted 25 (t .plantDocks) (omega (arith, h .plantDocks))))
+  truck-size = length-whole (past spareWords (replicate spareWords 0) [] (last (replicate spareWords 0) from143) refl)
 
   truck-decodes : truckIn (truckWords t) ≡ t
   unfolding truckIn truckWords
@@ -168,7 +170,7 @@ module _ (t : Truck) (h : TruckFits t) where
         products = take-counted 32 (t .products) _ from20 j;
         suppliers = take-counted 8 (t .suppliers) _ from53 j;
         docks = docks j;
-        plantDocks = take-counted 25 (t .plantDocks) [] from134 j;
+        plantDocks = take-counted 8 (t .plantDocks) _ from134 j;
       }
 
 trucks-decode : (ts : List Truck) → Every TruckFits ts → map truckIn (map truckWords ts) ≡ ts

@@ -14,7 +14,7 @@ use Rattle.meaning.specs.Rules.{pairPlaces, disjoint}
 use Rattle.meaning.specs.Feasible.{SameTruck, turnedBy, endX, endY, Under, OnFloor}
 use Rattle.meaning.proofs.Tests.{decide, or-reads, or-false}
 use Rattle.meaning.proofs.RuleKinds.{pairs-kept}
-use Rattle.meaning.proofs.Sound.{SoundStack, Sound}
+use Rattle.meaning.proofs.WellFormed.{WellFormedStack, WellFormed}
 
 -- ---- ends
 turned-is : (s : Stack) (a b : ℕ) → (orientation s ≡ 1) ⊎ (orientation s ≡ 2) → turnedBy s a b ≡ cond (eqb (orientation s) 1) a b
@@ -32,8 +32,8 @@ pub record Ends (i : Instance) (s : Stack) : Type 0 where
   pub long : x s < xe i s
   pub wide : y s < ye i s
 
-pub sound-ends : (i : Instance) (s : Stack) → SoundStack i s → Ends i s
-sound-ends i s h =
+pub formed-ends : (i : Instance) (s : Stack) → WellFormedStack i s → Ends i s
+formed-ends i s h =
     let lengthwise = eqb (orientation s) 1 in
     let l : 1 ≤ along i s = chosen lengthwise (IL (bottom i s)) (IW (bottom i s)) (h .long) (h .wide) in
     let w : 1 ≤ across i s = chosen lengthwise (IW (bottom i s)) (IL (bottom i s)) (h .wide) (h .long) in
@@ -80,9 +80,9 @@ module _ (i : Instance) (s r : Stack) (a : Ends i s) (b : Ends i r) where
   none-apart : ((u v : ℕ) → Under i s u v → Under i r u v → ⊥) → disjoint i s r ≡ true
   none-apart f = ⊎-elim (λ e. e) (λ e. let w = shared e in absurd (f (w .0) (w .1) (w .2) (w .3))) (decide (disjoint i s r))
 
-module _ (i : Instance) (p : List Stack) (sound : Sound i p) where
+module _ (i : Instance) (p : List Stack) (formed : WellFormed i p) where
   ends : (s : Stack) → In s p → Ends i s
-  ends s m = sound-ends i s (sound .stacks s m)
+  ends s m = formed-ends i s (formed .stacks s m)
 
   -- 23 overlap
   pub floor-exactly :

@@ -18,14 +18,14 @@ use Rattle.meaning.proofs.Sums.{sum-below, sum-drop}
 use Rattle.meaning.proofs.RuleKinds.{stacks-kept}
 use Rattle.meaning.proofs.Ring.{same-less, ring}
 use Rattle.meaning.proofs.SignedSums.{sum-signed, le-signed}
-use Rattle.meaning.proofs.Sound.{SoundStack, Sound}
+use Rattle.meaning.proofs.WellFormed.{WellFormedStack, WellFormed}
 
 -- a difference that is not negative
 minus-signed : (a b : ℕ) → b ≤ a → pos a -ℤ pos b ≡ pos (a - b)
 minus-signed a b h = simp ring (same-less _ _ _ _ (omega arith))
 
 -- an item nests no deeper than it is high, so nothing is cut off in the rule's difference
-height-signed : (i : Instance) (s : Stack) → SoundStack i s → heightOf i s ≡ pos (height i s)
+height-signed : (i : Instance) (s : Stack) → WellFormedStack i s → heightOf i s ≡ pos (height i s)
 unfolding height
 height-signed i s h =
     let high : ℕ → ℕ = λ n. IH (item i n) in
@@ -33,14 +33,14 @@ height-signed i s h =
     ap₂ _-ℤ_ (sum-signed high (s .load)) (sum-signed deep (above s))
     ∙ minus-signed (sum high (s .load)) (sum deep (above s)) (omega (arith, sum-drop deep 1 (s .load), sum-below deep high (s .load) (h .nested)))
 
-module _ (i : Instance) (p : List Stack) (sound : Sound i p) where
+module _ (i : Instance) (p : List Stack) (formed : WellFormed i p) where
   -- 22 outside, by its three dimensions
   abbrev pub Inside : Stack → Type 0
   Inside s = (xe i s ≤ TL (truckOf i s)) × (ye i s ≤ TW (truckOf i s)) × (heightOf i s ≤ℤ pos (TH (truckOf i s)))
 
   inside-reads : (s : Stack) → In s p → (inside i p s ≡ true) ↔ Inside s
   inside-reads s m =
-      let signed = height-signed i s (sound .stacks s m) in (
+      let signed = height-signed i s (formed .stacks s m) in (
         (λ e.
             let h = and-reads (withinLength i s && withinWidth i s) (withinHeight i s) .0 e in
             let k = and-reads (withinLength i s) (withinWidth i s) .0 (h .0) in

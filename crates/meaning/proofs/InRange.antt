@@ -3,7 +3,7 @@ use mathlib.Core.Path.{_≡_, refl, sym, ap, subst, _∙_}
 use mathlib.Core.Logic.{inl, inr, ⊎-elim, _↔_}
 use mathlib.Core.Bool.{true, not}
 use mathlib.Core.List.{List, [], _∷_, map, flatMap}
-use Prim.Native.Nat.{ℕ, zero, suc, _+_, _≤_, _<_}
+use Prim.Native.Nat.{ℕ, zero, suc, _+_, _≤_}
 use Prim.Native.String.{String}
 use native.Mathlib.Omega.{arith}
 use lib.Dec.{leb}
@@ -12,14 +12,14 @@ use lib.Seq.{take-all}
 use Rattle.meaning.specs.declared.Limits.{Limits}
 use Rattle.meaning.specs.Lists.{In, Every, upFrom, all, between, listed, distinct}
 use Rattle.meaning.specs.Model.{Instance, Truck, Stack, Item, number}
-use Rattle.meaning.specs.Files.{Field, ranges, allWithin, itemFields, itemRanges, truckFields, truckRanges, stackFields, stackRanges}
+use Rattle.meaning.specs.Files.{Field, ranges, allWithin, itemFields, truckFields, stackFields, stackRanges}
 use Rattle.meaning.specs.Files.{identifiersLine, itemLine, truckLine, docksLine, stackLine, loadLine}
 use Rattle.meaning.specs.Table.{loadEntries}
 use Rattle.meaning.specs.Meets.{Meets, TruckMeets, InstanceMeets, StacksMeet, FilesMeet}
 use Rattle.meaning.specs.InRange.{IsIdentifier, Distinct, ItemInRange, ListInRange, FieldsInRange, TruckInRange, InstanceInRange, StackInRange, LoadInRange, InRange}
 use Rattle.meaning.specs.Claims.{values, FieldsNamed}
 use Rattle.meaning.proofs.Tests.{and-reads, between-reads, le-reads, not-reads, iff-trans, iff-both, iff-not}
-use Rattle.meaning.proofs.Lists.{NoRepeat, at-in, in-at, in-map, every-iff, every-append, every-reads, all-every, listed-reads, distinct-reads, map-upFrom}
+use Rattle.meaning.proofs.Lists.{NoRepeat, at-in, in-at, in-map, every-iff, every-append, all-every, listed-reads, distinct-reads, map-upFrom}
 use Rattle.meaning.proofs.Fields.{Within}
 
 -- ---- the entries of a line, by their names

@@ -1,4 +1,4 @@
--- Rules 9 to 14, the item rules: they list no place exactly when the picture's words about items hold.
+-- Rules 9 to 14, the item rules: they list no place exactly when the picture's words about items hold. 9 stands apart.
 use mathlib.Core.Path.{_≡_, refl, sym, ap, subst, _∙_}
 use mathlib.Core.Logic.{inl, ⊎-elim, _↔_}
 use mathlib.Core.Bool.{Bool, true, false, cond, not}
@@ -9,17 +9,18 @@ use borrow.Author.Tests.{eqb-true, eqb-false, eq-eqb}
 use lib.Dec.{leb, eqb}
 use lib.ListN.{length, getD, length-append}
 use Rattle.meaning.specs.declared.Place.{Place}
-use Rattle.meaning.specs.Lists.{In, filter, sum, onlyIf, upFrom, orderIn, distinct}
+use Rattle.meaning.specs.Lists.{In, Every, filter, sum, onlyIf, upFrom, orderIn}
 use Rattle.meaning.specs.Places.{place}
-use Rattle.meaning.specs.Model.{Instance, Truck, Stack, Item, item, truckOf, IR, IP, IU, IK, IG, IDE, IDL, TP, TDA}
+use Rattle.meaning.specs.Model.{Instance, Truck, Stack, Item, item, truckOf, IR, IU, IK, IG}
 use Rattle.meaning.specs.Measures.{docksOf, supplierDockOrder, plantDockOrder}
-use Rattle.meaning.specs.Rules.{itemPlaces, timesLoaded, notOnce, plantMatches, productCarried, supplierVisited, arrivesInWindow, docksServed}
-use Rattle.meaning.specs.Feasible.{Stands, Once, ItemFits}
+use Rattle.meaning.specs.Rules.{timesLoaded, notOnce, itemRules, plantMatches, productCarried, supplierVisited, arrivesInWindow, docksServed}
+use Rattle.meaning.specs.Feasible.{Stands, Once, EachOnce, ItemFits}
+use Rattle.meaning.specs.Claims.{KeptBy}
 use Rattle.meaning.proofs.Tests.{and-reads, le-reads, between-reads, iff-trans, iff-both}
-use Rattle.meaning.proofs.Lists.{in-filter, filter-append, in-upFrom, flatMap-none, unless-none, listed-reads}
+use Rattle.meaning.proofs.Lists.{_&_, in-filter, filter-append, in-upFrom, flatMap-none, unless-none, listed-reads}
 use Rattle.meaning.proofs.Orders.{stands-first, stands-later, stands-cases, stands-in, order-in, order-stands, stands-order, list-at}
-use Rattle.meaning.proofs.RuleKinds.{items-kept}
-use Rattle.meaning.proofs.Sound.{Sound}
+use Rattle.meaning.proofs.RuleKinds.{kept-rule, items-kept}
+use Rattle.meaning.proofs.WellFormed.{WellFormed}
 
 -- ---- how often a number stands in a list
 abbrev times : ℕ → List ℕ → ℕ
@@ -112,14 +113,13 @@ each-once i p = (
     none = none-fails (λ n. eqb (timesLoaded p n) 1) (λ n. place n (timesLoaded p n) 0) (upFrom 1 (length (i .items)))
 
 -- 9: each item of the instance stands once among the load entries of the plan
-pub once-exactly : (i : Instance) (p : List Stack)
-    → (notOnce i p ≡ []) ↔ ((n : ℕ) → 1 ≤ n → n ≤ length (i .items) → Once n (flatMap (λ (s : Stack). s .load) p))
+pub once-exactly : (i : Instance) (p : List Stack) → (notOnce i p ≡ []) ↔ EachOnce i p
 once-exactly i p = (
   (λ e n from upTo. counted-once n _ .0 (sym (times-loaded n p) ∙ each-once i p .0 e n from upTo)),
   (λ f. each-once i p .1 (λ n from upTo. times-loaded n p ∙ counted-once n _ .1 (f n from upTo))),
 )
 
--- ---- the tests 10 to 14 for item n of stack s
+-- ---- the test of 14 for item n of stack s
 module _ (i : Instance) (s : Stack) (n : ℕ) where
   abbrev on : Truck
   on = truckOf i s
@@ -127,7 +127,7 @@ module _ (i : Instance) (s : Stack) (n : ℕ) where
   abbrev it : Item
   it = item i n
 
-  -- 14, where the loading order of the item's supplier is k
+  -- where the loading order of the item's supplier is k
   docks-reads : (k : ℕ) → orderIn (on .suppliers) (IU it) ≡ k → 1 ≤ k
       → (docksServed i s it ≡ true) ↔ (In (IK it) (getD (on .docks) (k - 1) []) × In (IG it) (on .plantDocks))
   docks-reads k e from = iff-trans (and-reads (leb 1 (supplierDockOrder i s it)) (leb 1 (plantDockOrder i s it))) (iff-both
@@ -138,57 +138,45 @@ module _ (i : Instance) (s : Stack) (n : ℕ) where
       same : docksOf on (IU it) ≡ getD (on .docks) (k - 1) []
       same = ap (λ (j : ℕ). getD ([] ∷ on .docks) j []) e ∙ list-at (on .docks) k from
 
-  abbrev Passes : Type 0
-  Passes = (plantMatches i s it ≡ true) × (productCarried i s it ≡ true) × (supplierVisited i s it ≡ true) × (arrivesInWindow i s it ≡ true) × (docksServed i s it ≡ true)
-
+-- 10 to 14: each loaded item fits its truck
+module _ (i : Instance) (p : List Stack) (formed : WellFormed i p) where
   -- the loading order of its supplier is the place k
-  passes-fit : Passes → ItemFits i s n
-  passes-fit h =
-      let u = listed-reads (IU it) (on .suppliers) .0 (h .2) in
-      let at = order-stands (on .suppliers) (IU it) u in
-      let days = between-reads (IDE it) (IDL it) (TDA on) .0 (h .3) in
-      let docks = docks-reads (orderIn (on .suppliers) (IU it)) refl (at .from) .0 (h .4) in
+  kept-fit : Every (KeptBy i p) itemRules → (s : Stack) → In s p → (n : ℕ) → In n (s .load) → ItemFits i s n
+  unfolding itemRules
+  kept-fit h s m n l =
+      let kept = kept-rule i p itemRules h in
+      let suppliers = truckOf i s .suppliers in
+      let supplier = listed-reads (IU (item i n)) suppliers .0 (items-kept i p supplierVisited .0 (kept 12) s m n l) in
+      let at = order-stands suppliers (IU (item i n)) supplier in
+      let day = between-reads _ _ _ .0 (items-kept i p arrivesInWindow .0 (kept 13) s m n l) in
+      let docks = docks-reads i s n (orderIn suppliers (IU (item i n))) refl (at .from) .0 (items-kept i p docksServed .0 (kept 14) s m n l) in
       record {
-        plant = eqb-true (IP it) (TP on) (h .0);
-        product = listed-reads (IR it) (on .products) .0 (h .1);
-        supplier = u;
-        notEarly = days .0;
-        notLate = days .1;
-        k = orderIn (on .suppliers) (IU it);
+        plant = eqb-true _ _ (items-kept i p plantMatches .0 (kept 10) s m n l);
+        product = listed-reads (IR (item i n)) (truckOf i s .products) .0 (items-kept i p productCarried .0 (kept 11) s m n l);
+        supplier = supplier;
+        notEarly = day .0;
+        notLate = day .1;
+        k = orderIn suppliers (IU (item i n));
         atSupplier = at;
         supplierDock = docks .0;
         plantDock = docks .1;
       }
 
-  -- the supplier stands at one place alone, so it is the place that the tests look at
-  fit-passes : distinct (on .suppliers) ≡ true → ItemFits i s n → Passes
-  fit-passes d h = (
-    eq-eqb (IP it) (TP on) (h .plant),
-    listed-reads (IR it) (on .products) .1 (h .product),
-    listed-reads (IU it) (on .suppliers) .1 (h .supplier),
-    between-reads (IDE it) (IDL it) (TDA on) .1 (h .notEarly, h .notLate),
-    docks-reads (h .k) (stands-order (on .suppliers) (IU it) (h .k) d (h .atSupplier)) (h .atSupplier .from) .1 (h .supplierDock, h .plantDock),
-  )
+  -- the supplier stands at one place alone, so it is the place that the test of 14 looks at
+  fit-served : (s : Stack) → In s p → (n : ℕ) → ItemFits i s n → docksServed i s (item i n) ≡ true
+  fit-served s m n h =
+      let only = stands-order (truckOf i s .suppliers) (IU (item i n)) (h .k) (formed .stacks s m .suppliers) (h .atSupplier) in
+      docks-reads i s n (h .k) only (h .atSupplier .from) .1 (h .supplierDock, h .plantDock)
 
--- 10 to 14: each loaded item fits its truck
-pub items-exactly : (i : Instance) (p : List Stack) → Sound i p
-    → ((itemPlaces plantMatches i p ≡ []) × (itemPlaces productCarried i p ≡ []) × (itemPlaces supplierVisited i p ≡ []) × (itemPlaces arrivesInWindow i p ≡ [])
-    × (itemPlaces docksServed i p ≡ []))
-    ↔ ((s : Stack) → In s p → (n : ℕ) → In n (s .load) → ItemFits i s n)
-items-exactly i p sound = (
-  (λ h s m n k. passes-fit i s n (
-    items-kept i p plantMatches .0 (h .0) s m n k,
-    items-kept i p productCarried .0 (h .1) s m n k,
-    items-kept i p supplierVisited .0 (h .2) s m n k,
-    items-kept i p arrivesInWindow .0 (h .3) s m n k,
-    items-kept i p docksServed .0 (h .4) s m n k,
-  )),
-  (λ f.
-      let passes : (s : Stack) → In s p → (n : ℕ) → In n (s .load) → Passes i s n = λ s m n k. fit-passes i s n (sound .stacks s m .suppliers) (f s m n k) in (
-        items-kept i p plantMatches .1 (λ s m n k. passes s m n k .0),
-        items-kept i p productCarried .1 (λ s m n k. passes s m n k .1),
-        items-kept i p supplierVisited .1 (λ s m n k. passes s m n k .2),
-        items-kept i p arrivesInWindow .1 (λ s m n k. passes s m n k .3),
-        items-kept i p docksServed .1 (λ s m n k. passes s m n k .4),
-      )),
-)
+  pub items-exactly : Every (KeptBy i p) itemRules ↔ ((s : Stack) → In s p → (n : ℕ) → In n (s .load) → ItemFits i s n)
+  unfolding itemRules
+  items-exactly = (
+    kept-fit,
+    (λ f.
+        items-kept i p plantMatches .1 (λ s m n l. eq-eqb _ _ (f s m n l .plant))
+        & items-kept i p productCarried .1 (λ s m n l. listed-reads (IR (item i n)) (truckOf i s .products) .1 (f s m n l .product))
+        & items-kept i p supplierVisited .1 (λ s m n l. listed-reads (IU (item i n)) (truckOf i s .suppliers) .1 (f s m n l .supplier))
+        & items-kept i p arrivesInWindow .1 (λ s m n l. between-reads _ _ _ .1 (f s m n l .notEarly, f s m n l .notLate))
+        & items-kept i p docksServed .1 (λ s m n l. fit-served s m n (f s m n l))
+        & tt),
+  )

@@ -19,8 +19,8 @@ use Rattle.meaning.proofs.Orders.{order-take}
 use Rattle.meaning.proofs.RuleKinds.{used-reads, one-truck, counts-reads, trucks-kept, departures-kept}
 use Rattle.meaning.proofs.Ring.{apart-of, same-less, ring}
 use Rattle.meaning.proofs.SignedSums.{sum-signed, le-signed, weight-signed}
-use Rattle.meaning.proofs.Sound.{Sound}
-use Rattle.meaning.proofs.Extents.{sound-ends}
+use Rattle.meaning.proofs.WellFormed.{WellFormed}
+use Rattle.meaning.proofs.Extents.{formed-ends}
 
 -- ---- sums over the stacks that a test picks
 module _ {A : Type 0} where
@@ -118,7 +118,7 @@ rear-all : (hr em cr w : ℕ) (S : ℤ)
     ≡ pos 2 *ℤ pos hr *ℤ pos w -ℤ S +ℤ pos 2 *ℤ pos em *ℤ (pos hr -ℤ pos cr)
 rear-all hr em cr w S = rw (apart-of S) (simp ring (same-less _ _ _ _ (omega arith)))
 
--- ---- a list of stacks that are on, all of a sound plan
+-- ---- a list of stacks that are on, all of a well-formed plan
 module _ (i : Instance) (t : Truck) (on : List Stack) (ends : (s : Stack) → In s on → endX i s ≡ xe i s) where
   stack-middle : (s : Stack) → In s on → lever i t s *ℤ pos (CJfh t) ≡ toMiddle i t s
   unfolding lever
@@ -182,10 +182,10 @@ module _ (i : Instance) (p : List Stack) where
   )
 
 -- ---- 27 and 28
-module _ (i : Instance) (p : List Stack) (sound : Sound i p) where
+module _ (i : Instance) (p : List Stack) (formed : WellFormed i p) where
   -- the ends of the stacks that are on
   on-ends : (s : Stack) (k : ℕ) (r : Stack) → In r (filter (onAt i s k) p) → endX i r ≡ xe i r
-  on-ends s k r m = sound-ends i r (sound .stacks r (in-filter (onAt i s k) p r .0 m .0)) .atX
+  on-ends s k r m = formed-ends i r (formed .stacks r (in-filter (onAt i s k) p r .0 m .0)) .atX
 
   -- 27 and 28 at one departure of the used truck of s
   bears-reads : (s : Stack) (k : ℕ)

@@ -22,7 +22,7 @@ pub mod Stopped
 pub mod ReadExactly
 pub mod Decode
 pub mod TableAfter
-pub mod Sound
+pub mod WellFormed
 pub mod RuleKinds
 pub mod ItemRules
 pub mod StackRules

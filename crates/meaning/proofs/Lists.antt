@@ -14,6 +14,11 @@ use lib.Seq.{drop-cons}
 use Rattle.meaning.specs.Lists.{any, all, filter, dedup, onlyIf, upFrom, In, Every, listed, distinct}
 use Rattle.meaning.proofs.Tests.{true≢false, and-reads, or-reads, not-reads, same-test, iff-trans, iff-both, iff-not}
 
+-- a fact of the first element of a list, in front of those of the others
+infixr 30 _&_
+pub _&_ : {A B : Type 0} → A → B → A × B
+a & b = (a, b)
+
 module _ {A : Type 0} where
   pub no-cons : (a : A) (l : List A) → (a ∷ l) ≡ [] → ⊥
   no-cons a l e = let z : suc (length l) ≡ 0 = ap length e in omega arith
@@ -151,7 +156,7 @@ module _ {A : Type 0} where
     down-end {j} h k = let e : j ≡ 0 = omega arith in h .is ∙ ap (λ n. value (drop n l)) e
 
   -- ---- no element
-  append-none : (l l′ : List A) → (l ++ l′ ≡ []) ↔ ((l ≡ []) × (l′ ≡ []))
+  pub append-none : (l l′ : List A) → (l ++ l′ ≡ []) ↔ ((l ≡ []) × (l′ ≡ []))
   append-none [] l′ = ((λ e. (refl, e)), (λ h. h .1))
   append-none (a ∷ l) l′ = ((λ e. absurd (no-cons a (l ++ l′) e)), (λ h. absurd (no-cons a l (h .0))))
 

@@ -18,7 +18,7 @@ use Rattle.meaning.proofs.Tests.{true≢false, and-reads, or-reads, not
 use Rattle.meaning.proofs.Lists.{all-reads}
 use Rattle.meaning.proofs.Orders.{order-stands, stands-order, placed-reads, list-at}
 use Rattle.meaning.proofs.RuleKinds.{pairs-kept}
-use Rattle.meaning.proofs.Sound.{SoundStack, Sound}
+use Rattle.meaning.proofs.WellFormed.{WellFormedStack, WellFormed}
 
 -- ---- the docks of a supplier
 -- its list among the docks is the one at its place
@@ -37,12 +37,12 @@ record Listed (i : Instance) (t : Truck) (s : Stack) : Type 0 where
   dock : In (IK (bottom i s)) (docksOf t (IU (bottom i s)))
   plantDock : (n : ℕ) → In n (s .load) → In (IG (item i n)) (t .plantDocks)
 
-fits-listed : (i : Instance) (s : Stack) → SoundStack i s → ((n : ℕ) → In n (s .load) → ItemFits i s n) → Listed i (truckOf i s) s
-fits-listed i s sound fits =
-    let b = fits (getD (s .load) 0 0) (sound .some) in
+fits-listed : (i : Instance) (s : Stack) → WellFormedStack i s → ((n : ℕ) → In n (s .load) → ItemFits i s n) → Listed i (truckOf i s) s
+fits-listed i s formed fits =
+    let b = fits (getD (s .load) 0 0) (formed .some) in
     record {
       supplier = b .supplier;
-      dock = rw (docks-at (truckOf i s) (IU (bottom i s)) (b .k) (sound .suppliers) (b .atSupplier)) (b .supplierDock);
+      dock = rw (docks-at (truckOf i s) (IU (bottom i s)) (b .k) (formed .suppliers) (b .atSupplier)) (b .supplierDock);
       plantDock = λ n m. fits n m .plantDock;
     }
 
@@ -60,7 +60,7 @@ up-to i t s r d es er a b = (
     order n m k l = rw (es, er) (placed-reads leb _≤_ le-reads (t .plantDocks) d (IG (item i n)) (IG (item i m)) (a .plantDock n k) (b .plantDock m l))
 
 -- ---- P4 for stacks s and r of a truck t
-module _ (i : Instance) (s r : Stack) (sound : SoundStack i s) (same : truckOf i r ≡ truckOf i s) (a : Listed i (truckOf i s) s) (b : Listed i (truckOf i s) r) where
+module _ (i : Instance) (s r : Stack) (formed : WellFormedStack i s) (same : truckOf i r ≡ truckOf i s) (a : Listed i (truckOf i s) s) (b : Listed i (truckOf i s) r) where
   abbrev t : Truck
   t = truckOf i s
 
@@ -78,11 +78,11 @@ module _ (i : Instance) (s r : Stack) (sound : SoundStack i s) (same : truckOf i
 
   -- (1)
   by-supplier : (smallerSupplier ≡ true) ↔ Earlier (t .suppliers) (IU (bottom i s)) (IU (bottom i r))
-  by-supplier = rw same (placed-reads ltb _<_ lt-reads (t .suppliers) (sound .suppliers) (IU (bottom i s)) (IU (bottom i r)) (a .supplier) (b .supplier))
+  by-supplier = rw same (placed-reads ltb _<_ lt-reads (t .suppliers) (formed .suppliers) (IU (bottom i s)) (IU (bottom i r)) (a .supplier) (b .supplier))
 
   docks-distinct : (k : ℕ) → distinct (getD ([] ∷ t .docks) k []) ≡ true
   unfolding distinct
-  docks-distinct k = list-distinct ([] ∷ t .docks) k (refl, sound .docks)
+  docks-distinct k = list-distinct ([] ∷ t .docks) k (refl, formed .docks)
 
   -- (2), for the docks of the one supplier
   by-dock : IU (bottom i s) ≡ IU (bottom i r) → (smallerDock ≡ true) ↔ Earlier (docksOf t (IU (bottom i s))) (IK (bottom i s)) (IK (bottom i r))
@@ -94,10 +94,10 @@ module _ (i : Instance) (s r : Stack) (sound : SoundStack i s) (same : truckOf i
 
   -- (3), and its reverse
   upTo : (docksNotAfter i s r ≡ true) ↔ ((n m : ℕ) → In n (s .load) → In m (r .load) → NotLater (t .plantDocks) (IG (item i n)) (IG (item i m)))
-  upTo = up-to i t s r (sound .plantDocks) refl same a b
+  upTo = up-to i t s r (formed .plantDocks) refl same a b
 
   downTo : (docksNotAfter i r s ≡ true) ↔ ((n m : ℕ) → In n (s .load) → In m (r .load) → NotLater (t .plantDocks) (IG (item i m)) (IG (item i n)))
-  downTo = let h = up-to i t r s (sound .plantDocks) same refl b a in ((λ e n m k l. h .0 e m n l k), (λ f. h .1 (λ m n l k. f n m k l)))
+  downTo = let h = up-to i t r s (formed .plantDocks) same refl b a in ((λ e n m k l. h .0 e m n l k), (λ f. h .1 (λ m n l k. f n m k l)))
 
   -- the cases as the test has them
   abbrev caseDock : Bool
@@ -112,7 +112,7 @@ module _ (i : Instance) (s r : Stack) (sound : SoundStack i s) (same : truckOf i
       let u : IU (bottom i s) ≡ IU (bottom i r) = eqb-true _ _ (h .0) in
       let k = orderIn (t .suppliers) (IU (bottom i s)) in
       let at : Stands (t .suppliers) (IU (bottom i s)) k = order-stands (t .suppliers) (IU (bottom i s)) (a .supplier) in
-      byDock k u at (rw (← docks-at t (IU (bottom i s)) k (sound .suppliers) at) (by-dock u .0 (h .1)))
+      byDock k u at (rw (← docks-at t (IU (bottom i s)) k (formed .suppliers) at) (by-dock u .0 (h .1)))
 
   from-plantDock : casePlantDock ≡ true → MustPrecede i s r
   from-plantDock e =
@@ -129,7 +129,7 @@ module _ (i : Instance) (s r : Stack) (sound : SoundStack i s) (same : truckOf i
   to-precedes : MustPrecede i s r → loadsBefore i s r ≡ true
   to-precedes (bySupplier e) = passes (inl (inl (by-supplier .1 e)))
   to-precedes (byDock k u at e) =
-      passes (inl (inr (and-reads sameSupplier smallerDock .1 (eq-eqb _ _ u, by-dock u .1 (rw (docks-at t (IU (bottom i s)) k (sound .suppliers) at) e)))))
+      passes (inl (inr (and-reads sameSupplier smallerDock .1 (eq-eqb _ _ u, by-dock u .1 (rw (docks-at t (IU (bottom i s)) k (formed .suppliers) at) e)))))
   to-precedes (byPlantDock u k f g) =
       passes (inr (and-reads (sameSupplier && sameDock && docksNotAfter i s r) (not (docksNotAfter i r s)) .1 (
         and-reads (sameSupplier && sameDock) (docksNotAfter i s r) .1 (and-reads sameSupplier sameDock .1 (eq-eqb _ _ u, eq-eqb _ _ k), upTo .1 f),
@@ -150,20 +150,20 @@ order-reads : (b c : Bool) → ((not b || c) ≡ true) ↔ (b ≡ true → c ≡
 order-reads true c = ((λ e k. e), (λ f. f refl))
 order-reads false c = ((λ e k. absurd (true≢false (sym k))), (λ f. refl))
 
-module _ (i : Instance) (p : List Stack) (sound : Sound i p) (fits : (s : Stack) → In s p → (n : ℕ) → In n (s .load) → ItemFits i s n) where
+module _ (i : Instance) (p : List Stack) (formed : WellFormed i p) (fits : (s : Stack) → In s p → (n : ℕ) → In n (s .load) → ItemFits i s n) where
   -- P4 for two stacks of one used truck
   must-precede : (s r : Stack) → In s p → In r p → SameTruck s r → (loadsBefore i s r ≡ true) ↔ MustPrecede i s r
   must-precede s r m n o =
       let same : truckOf i r ≡ truckOf i s = ap (truckNumbered i) (sym (o .truck)) in
-      let b : Listed i (truckOf i s) r = subst (λ (w : Truck). Listed i w r) same (fits-listed i r (sound .stacks r n) (fits r n)) in
-      precedes-reads i s r (sound .stacks s m) same (fits-listed i s (sound .stacks s m) (fits s m)) b
+      let b : Listed i (truckOf i s) r = subst (λ (w : Truck). Listed i w r) same (fits-listed i r (formed .stacks r n) (fits r n)) in
+      precedes-reads i s r (formed .stacks s m) same (fits-listed i s (formed .stacks s m) (fits s m)) b
 
   -- a stack is in order with itself
   in-order : (s r : Stack) → In s p → In r p → ((number s ≡ number r → ⊥) → x s ≤ x r) → x s ≤ x r
   in-order s r m n f = go (ℕ-discrete (number s) (number r))
     where
       go : Dec (number s ≡ number r) → x s ≤ x r
-      go (yes e) = let z : x s ≡ x r = ap x (sound .known s r m n e) in omega (arith, z)
+      go (yes e) = let z : x s ≡ x r = ap x (formed .known s r m n e) in omega (arith, z)
       go (no d) = f d
 
   pub order-exactly : (pairPlaces inLoadingOrder i p ≡ []) ↔ ((s r : Stack) → In s p → In r p → SameTruck s r → MustPrecede i s r → x s ≤ x r)

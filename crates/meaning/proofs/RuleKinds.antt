@@ -1,15 +1,17 @@
--- What it says of a plan that a rule lists no place: one law for each kind of rule.
+-- What it says of a plan that a rule lists no place: one law for each kind of rule. And a rule of a list, by its number.
 use mathlib.Core.Path.{_≡_, refl, sym, ap}
 use mathlib.Core.Logic.{inl, _↔_}
-use mathlib.Core.Bool.{Bool, true, not}
+use mathlib.Core.Bool.{Bool, true, false, cond, not}
 use mathlib.Core.List.{List, [], _∷_}
 use Prim.Native.Nat.{ℕ}
 use borrow.Author.Tests.{eqb-true, eq-eqb}
 use lib.Dec.{eqb}
-use Rattle.meaning.specs.Lists.{In}
+use Rattle.meaning.specs.declared.Place.{Place}
+use Rattle.meaning.specs.Lists.{In, Every}
 use Rattle.meaning.specs.Model.{Instance, Truck, Stack, Item, item, truckNumbered, number, truck, copy}
 use Rattle.meaning.specs.Measures.{UsedTruck, sameUsed, another, usedTrucks, stacksOn, departures, stacksAtDeparture}
-use Rattle.meaning.specs.Rules.{itemPlaces, stackPlaces, pairPlaces, truckPlaces, departurePlaces, counts}
+use Rattle.meaning.specs.Rules.{Rule, itemPlaces, stackPlaces, pairPlaces, truckPlaces, departurePlaces, counts}
+use Rattle.meaning.specs.Claims.{KeptBy}
 use Rattle.meaning.specs.Feasible.{SameTruck, onTruckOf}
 use Rattle.meaning.proofs.Tests.{true≢false, and-reads, not-reads, eq-reads, iff-trans, iff-both}
 use Rattle.meaning.proofs.Lists.{flatMap-none, unless-none, among-none}
@@ -43,6 +45,21 @@ another-reads s r = (
 pub counts-reads : (on : List Stack) → (counts on ≡ true) ↔ ((s : Stack) × In s on)
 counts-reads [] = ((λ e. absurd (true≢false (sym e))), (λ w. absurd (w .1)))
 counts-reads (s ∷ on) = ((λ e. (s, inl refl)), (λ w. refl))
+
+-- ---- a rule by its number
+-- the places of the rule that has the number v; none where no rule has it
+abbrev pub placesOf : List Rule → ℕ → Instance → List Stack → List Place
+placesOf [] v i p = []
+placesOf (r ∷ rs) v i p = cond (eqb v (r .verdict)) (r .places i p) (placesOf rs v i p)
+
+-- where all rules of a list are kept, so is the one of each number, wherever it stands
+pub kept-rule : (i : Instance) (p : List Stack) (rs : List Rule) → Every (KeptBy i p) rs → (v : ℕ) → placesOf rs v i p ≡ []
+kept-rule i p [] h v = refl
+kept-rule i p (r ∷ rs) h v = either (eqb v (r .verdict)) (h .0) (kept-rule i p rs (h .1) v)
+  where
+    either : (t : Bool) {l l′ : List Place} → l ≡ [] → l′ ≡ [] → cond t l l′ ≡ []
+    either true e e′ = e
+    either false e e′ = e′
 
 -- ---- the kinds of rules
 module _ (i : Instance) (p : List Stack) where

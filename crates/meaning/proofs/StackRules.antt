@@ -10,17 +10,18 @@ use lib.Dec.{leb, eqb}
 use lib.IntN.{ℤ, pos, _*ℤ_}
 use lib.Signed.{_≤ℤ_}
 use lib.ListN.{length, getD}
-use Rattle.meaning.specs.Lists.{In, distinct, orderIn}
+use Rattle.meaning.specs.Lists.{In, Every, distinct, orderIn}
 use Rattle.meaning.specs.Model.{Instance, Truck, Stack, Item, item, truckOf, number, orientation, IL, IW, IS, ISM, IO, IP, IG, IU, IK, TMM, TF, TEM}
 use Rattle.meaning.specs.Measures.{above, sm, plantDocksOf}
-use Rattle.meaning.specs.Rules.{itemPlaces, stackPlaces, pairPlaces, stackable, plantDockCount, consecutive, plantDocksAllowed, singlePair, orientationKept}
+use Rattle.meaning.specs.Rules.{pairPlaces, stackRules, stackable, plantDockCount, consecutive, plantDocksAllowed, singlePair, orientationKept}
 use Rattle.meaning.specs.Rules.{weightAbove, topWeightWithin, itemCount, stackabilityKept, densityWithin}
-use Rattle.meaning.specs.Feasible.{SameTruck, bottomItem, Stands, ItemStacks, OneDock, TwoDocks, weightOf, StackFits, HasTwoDocks}
+use Rattle.meaning.specs.Feasible.{SameTruck, bottomItem, Stands, ItemStacks, OneDock, TwoDocks, weightOf, StackFits, StacksFit, HasTwoDocks}
+use Rattle.meaning.specs.Claims.{KeptBy}
 use Rattle.meaning.proofs.Tests.{true≢false, and-reads, or-reads, not-reads, le-reads, eq-reads, iff-trans, iff-sym, iff-both, iff-either}
-use Rattle.meaning.proofs.Lists.{NoRepeat, in-dedup, dedup-noRepeat, in-map}
+use Rattle.meaning.proofs.Lists.{_&_, NoRepeat, in-dedup, dedup-noRepeat, in-map}
 use Rattle.meaning.proofs.Orders.{order-stands, stands-order}
-use Rattle.meaning.proofs.RuleKinds.{items-kept, stacks-kept, pairs-kept}
-use Rattle.meaning.proofs.Sound.{Sound, SoundStack}
+use Rattle.meaning.proofs.RuleKinds.{kept-rule, items-kept, stacks-kept, pairs-kept}
+use Rattle.meaning.proofs.WellFormed.{WellFormed, WellFormedStack}
 use Rattle.meaning.proofs.SignedSums.{le-signed, weight-signed}
 
 -- ---- lists of numbers without repeats
@@ -262,31 +263,8 @@ module _ (i : Instance) (p : List Stack) (s : Stack) where
   stack-alike h n m = let k = h .items n m in alike-reads i s (item i n) .1 (k .supplier, k .plant, k .code, k .maximal, k .dock)
 
   -- back: the bottom item is one of them
-  stack-few : SoundStack i s → StackFits i s → stackabilityKept i p s ≡ true
-  stack-few sound h = le-leb (length (s .load)) (ISM (bottomItem i s)) (h .items (getD (s .load) 0 0) (sound .some) .notTooMany)
-
--- 15, 16 and 18 to 21: each stack fits its truck
-pub stacks-exactly : (i : Instance) (p : List Stack) → Sound i p
-    → ((s : Stack) → In s p → (n : ℕ) → In n (s .load) → In (IG (item i n)) (truckOf i s .plantDocks))
-    → ((itemPlaces stackable i p ≡ []) × (stackPlaces plantDocksAllowed plantDockCount i p ≡ []) × (itemPlaces orientationKept i p ≡ []) × (stackPlaces topWeightWithin weightAbove i p ≡ [])
-    × (stackPlaces stackabilityKept itemCount i p ≡ []) × (stackPlaces densityWithin sm i p ≡ []))
-    ↔ ((s : Stack) → In s p → StackFits i s)
-stacks-exactly i p sound docked = (
-  (λ h s m. record {
-    items = items-stack i p s (items-kept i p stackable .0 (h .0) s m) (items-kept i p orientationKept .0 (h .2) s m) (stacks-kept i p stackabilityKept itemCount .0 (h .4) s m);
-    docks = docks-exactly i s (docked s m) (sound .stacks s m .plantDocks) p .0 (stacks-kept i p plantDocksAllowed plantDockCount .0 (h .1) s m);
-    topWeight = top-exactly i p s .0 (stacks-kept i p topWeightWithin weightAbove .0 (h .3) s m);
-    density = density-exactly i p s .0 (stacks-kept i p densityWithin sm .0 (h .5) s m);
-  }),
-  (λ f. (
-    items-kept i p stackable .1 (λ s m. stack-alike i p s (f s m)),
-    stacks-kept i p plantDocksAllowed plantDockCount .1 (λ s m. docks-exactly i s (docked s m) (sound .stacks s m .plantDocks) p .1 (f s m .docks)),
-    items-kept i p orientationKept .1 (λ s m n k. turned-reads i s (item i n) .1 (f s m .items n k .turned)),
-    stacks-kept i p topWeightWithin weightAbove .1 (λ s m. top-exactly i p s .1 (f s m .topWeight)),
-    stacks-kept i p stackabilityKept itemCount .1 (λ s m. stack-few i p s (sound .stacks s m) (f s m)),
-    stacks-kept i p densityWithin sm .1 (λ s m. density-exactly i p s .1 (f s m .density)),
-  )),
-)
+  stack-few : WellFormedStack i s → StackFits i s → stackabilityKept i p s ≡ true
+  stack-few formed h = le-leb (length (s .load)) (ISM (bottomItem i s)) (h .items (getD (s .load) 0 0) (formed .some) .notTooMany)
 
 -- ---- 17
 -- where 16 is kept, a stack has two plant docks exactly when two of its items are for different ones
@@ -326,7 +304,7 @@ pair-reads i s r = (
         (iff-both (iff-trans (and-reads first second) (iff-both (eq-reads (plantDockCount i s) 2) (eq-reads (plantDockCount i r) 2))) (eq-reads (IS (bottomItem i s)) (IS (bottomItem i r))))
 
 -- 17: no two stacks of one code on one used truck both have two plant docks
-pub pairs-exactly : (i : Instance) (p : List Stack) → ((s : Stack) → In s p → plantDocksAllowed i p s ≡ true)
+pairs-exactly : (i : Instance) (p : List Stack) → ((s : Stack) → In s p → plantDocksAllowed i p s ≡ true)
     → (pairPlaces singlePair i p ≡ [])
     ↔ ((s r : Stack) → In s p → In r p → SameTruck s r → (number s ≡ number r → ⊥) → IS (bottomItem i s) ≡ IS (bottomItem i r) → HasTwoDocks i s → HasTwoDocks i r → ⊥)
 pairs-exactly i p kept = (
@@ -335,3 +313,44 @@ pairs-exactly i p kept = (
   (λ f. pairs-kept i p singlePair .1 (λ s r m n o d.
       pair-reads i s r .1 (λ a b q. f s r m n o d q (two-exactly i p s (kept s m) .0 a) (two-exactly i p r (kept r n) .0 b)))),
 )
+
+-- ---- 15 to 21: each stack fits its truck
+module _ (i : Instance) (p : List Stack) (formed : WellFormed i p)
+    (listed-all : (s : Stack) → In s p → (n : ℕ) → In n (s .load) → In (IG (item i n)) (truckOf i s .plantDocks)) where
+  -- 16, where rule 14 is kept
+  docks-read : (s : Stack) → In s p → (plantDocksAllowed i p s ≡ true) ↔ (OneDock i s ⊎ ((TF (truckOf i s) ≡ 1) × TwoDocks i s))
+  docks-read s m = docks-exactly i s (listed-all s m) (formed .stacks s m .plantDocks) p
+
+  kept-fit : Every (KeptBy i p) stackRules → StacksFit i p
+  unfolding stackRules
+  kept-fit h =
+      let kept = kept-rule i p stackRules h in
+      let mixed = items-kept i p stackable .0 (kept 15) in
+      let docks = stacks-kept i p plantDocksAllowed plantDockCount .0 (kept 16) in
+      let turned = items-kept i p orientationKept .0 (kept 18) in
+      let tooMany = stacks-kept i p stackabilityKept itemCount .0 (kept 20) in
+      record {
+        each = λ s m. record {
+          items = items-stack i p s (mixed s m) (turned s m) (tooMany s m);
+          docks = docks-read s m .0 (docks s m);
+          topWeight = top-exactly i p s .0 (stacks-kept i p topWeightWithin weightAbove .0 (kept 19) s m);
+          density = density-exactly i p s .0 (stacks-kept i p densityWithin sm .0 (kept 21) s m);
+        };
+        singlePair = pairs-exactly i p docks .0 (kept 17);
+      }
+
+  pub stacks-exactly : Every (KeptBy i p) stackRules ↔ StacksFit i p
+  unfolding stackRules
+  stacks-exactly = (
+    kept-fit,
+    (λ f.
+        let docks : (s : Stack) → In s p → plantDocksAllowed i p s ≡ true = λ s m. docks-read s m .1 (f .each s m .docks) in
+        items-kept i p stackable .1 (λ s m. stack-alike i p s (f .each s m))
+        & stacks-kept i p plantDocksAllowed plantDockCount .1 docks
+        & pairs-exactly i p docks .1 (f .singlePair)
+        & items-kept i p orientationKept .1 (λ s m n k. turned-reads i s (item i n) .1 (f .each s m .items n k .turned))
+        & stacks-kept i p topWeightWithin weightAbove .1 (λ s m. top-exactly i p s .1 (f .each s m .topWeight))
+        & stacks-kept i p stackabilityKept itemCount .1 (λ s m. stack-few i p s (formed .stacks s m) (f .each s m))
+        & stacks-kept i p densityWithin sm .1 (λ s m. density-exactly i p s .1 (f .each s m .density))
+        & tt),
+  )

@@ -10,7 +10,7 @@ use Rattle.meaning.proofs.Decode.{decodes}
 use Rattle.meaning.proofs.TableAfter.{table-after, read-refused}
 use Rattle.meaning.proofs.Stopped.{handed-back-refused}
 use Rattle.meaning.proofs.Readable.{readable-exactly, decided}
-use Rattle.meaning.proofs.Feasible.{accepted-when-feasible}
+use Rattle.meaning.proofs.Feasible.{loading-kept-exactly, accepted-when-feasible}
 use Rattle.meaning.proofs.AnyOrder.{order-free, any-order}
 
 pub theorems : (m : Limits) → Theorems m
@@ -28,6 +28,7 @@ theorems m =
       handedBackRefused = handed-back-refused m;
       readableExactly = readable-exactly m;
       decided = decided m;
+      loadingKeptExactly = loading-kept-exactly m;
       acceptedWhenFeasible = accepted-when-feasible m;
       orderFree = order-free m;
       anyOrder = any-order m;

@@ -10,23 +10,18 @@ use Rattle.meaning.specs.declared.Answer.{Answer}
 use Rattle.meaning.specs.Lists.{onlyIf, upFrom, between, Every}
 use Rattle.meaning.specs.Places.{place}
 use Rattle.meaning.specs.Model.{Instance, Truck, Stack, Item, truckNumbered, number, x, EM, EJcr}
-use Rattle.meaning.specs.Measures.{UsedTruck, usedBy, sameUsed, usedTrucks, stacksOn, another, weightOn, departures, stacksAtDeparture, supplierOrder, sm, lever, H}
+use Rattle.meaning.specs.Measures.{UsedTruck, usedBy, sameUsed, usedTrucks, stacksOn, weightOn, departures, stacksAtDeparture, supplierOrder, sm, lever, H}
 use Rattle.meaning.specs.Rules.{itemPlaces, stackPlaces, pairPlaces, truckPlaces, departurePlaces, counts, timesLoaded, notOnce}
 use Rattle.meaning.specs.Rules.{plantMatches, productCarried, supplierVisited, arrivesInWindow, docksServed, stackable, plantDocksAllowed, plantDockCount, singlePair, orientationKept, topWeightWithin, weightAbove}
 use Rattle.meaning.specs.Rules.{stackabilityKept, itemCount, densityWithin, inside, exceededSide, disjoint, braced, bracedBy, noAmount, inLoadingOrder, withinLoadLimit, middleAxleHolds, rearAxleHolds}
-use Rattle.meaning.specs.Rules.{Rule, itemRules, stackRules, placementRules, weightRules, rules}
+use Rattle.meaning.specs.Rules.{Rule, itemRules, stackRules, placementRules, weightRules, loadingRules, rules}
 use Rattle.meaning.specs.Verdict.{brokenOr, firstBroken, acceptance, cost, transportCost, inventoryCost, verdictOn}
 use Rattle.meaning.proofs.Tests.{same-test}
-use Rattle.meaning.proofs.Lists.{every-append}
+use Rattle.meaning.proofs.Lists.{_&_, every-append}
 use Rattle.meaning.proofs.RuleKinds.{used-reads, counts-reads}
 use Rattle.meaning.proofs.Permute.{Same, same-refl, perm-same, any-perm, length-perm, sum-perm, sumℤ-perm, map-perm, filter-perm, dedup-perm}
 use Rattle.meaning.proofs.Permute.{flatMap-same, flatMap-equal}
 use Rattle.meaning.proofs.Lowest.{lowest-same}
-
--- a fact of the first element of a list, in front of those of the others
-infixr 30 _&_
-_&_ : {A B : Type 0} → A → B → A × B
-a & b = (a, b)
 
 -- ---- what the rules measure, in another order
 counts-perm : (on on′ : List Stack) → List·Permᴰ on on′ → counts on ≡ counts on′
@@ -128,32 +123,48 @@ module _ (i : Instance) (p p′ : List Stack) (h : List·Permᴰ p p′) where
   itemRules-same : Every SamePlaces itemRules
   unfolding itemRules
   itemRules-same =
-      notOnce-same & itemPlaces-same plantMatches & itemPlaces-same productCarried & itemPlaces-same supplierVisited & itemPlaces-same arrivesInWindow & itemPlaces-same docksServed & tt
+      itemPlaces-same plantMatches
+      & itemPlaces-same productCarried
+      & itemPlaces-same supplierVisited
+      & itemPlaces-same arrivesInWindow
+      & itemPlaces-same docksServed
+      & tt
 
   stackRules-same : Every SamePlaces stackRules
   unfolding stackRules
   stackRules-same =
-      itemPlaces-same stackable & stackPlaces-same plantDocksAllowed plantDockCount (λ s. refl) & pairPlaces-same singlePair & itemPlaces-same orientationKept
-      & stackPlaces-same topWeightWithin weightAbove (λ s. refl) & stackPlaces-same stackabilityKept itemCount (λ s. refl) & stackPlaces-same densityWithin sm (λ s. refl) & tt
+      itemPlaces-same stackable
+      & stackPlaces-same plantDocksAllowed plantDockCount (λ s. refl)
+      & pairPlaces-same singlePair
+      & itemPlaces-same orientationKept
+      & stackPlaces-same topWeightWithin weightAbove (λ s. refl)
+      & stackPlaces-same stackabilityKept itemCount (λ s. refl)
+      & stackPlaces-same densityWithin sm (λ s. refl)
+      & tt
 
   placementRules-same : Every SamePlaces placementRules
   unfolding placementRules
   placementRules-same =
-      stackPlaces-same inside exceededSide (λ s. refl) & pairPlaces-same disjoint & stackPlaces-same braced noAmount braced-perm & pairPlaces-same inLoadingOrder & tt
+      stackPlaces-same inside exceededSide (λ s. refl)
+      & pairPlaces-same disjoint
+      & stackPlaces-same braced noAmount braced-perm
+      & pairPlaces-same inLoadingOrder
+      & tt
 
   weightRules-same : Every SamePlaces weightRules
   unfolding weightRules
   weightRules-same =
-      truckPlaces-same withinLoadLimit (loadFits-perm i) & departurePlaces-same middleAxleHolds (middleFits-perm i) & departurePlaces-same rearAxleHolds (rearFits-perm i) & tt
+      truckPlaces-same withinLoadLimit (loadFits-perm i)
+      & departurePlaces-same middleAxleHolds (middleFits-perm i)
+      & departurePlaces-same rearAxleHolds (rearFits-perm i)
+      & tt
 
   rules-same : Every SamePlaces rules
-  unfolding rules
+  unfolding rules loadingRules
   rules-same =
-      every-append SamePlaces itemRules (stackRules ++ (placementRules ++ weightRules)) .1 (
-        itemRules-same,
-        every-append SamePlaces stackRules (placementRules ++ weightRules) .1
-            (stackRules-same, every-append SamePlaces placementRules weightRules .1 (placementRules-same, weightRules-same)),
-      )
+      let fromPlacement = every-append SamePlaces placementRules weightRules .1 (placementRules-same, weightRules-same) in
+      let fromStacks = every-append SamePlaces stackRules (placementRules ++ weightRules) .1 (stackRules-same, fromPlacement) in
+      notOnce-same & every-append SamePlaces itemRules (stackRules ++ (placementRules ++ weightRules)) .1 (itemRules-same, fromStacks)
 
   firstBroken-same : (rs : List Rule) (a : Answer) → Every SamePlaces rs → firstBroken rs i p a ≡ firstBroken rs i p′ a
   unfolding firstBroken

@@ -13,10 +13,10 @@ use Rattle.meaning.specs.Limits.{named}
 use Rattle.meaning.specs.Model.{Instance, Truck, Stack, Item}
 use Rattle.meaning.specs.Table.{words, instanceIn, stacksIn}
 use Rattle.meaning.specs.Places.{lowest}
-use Rattle.meaning.specs.Rules.{Rule, rules}
+use Rattle.meaning.specs.Rules.{Rule, rules, loadingRules}
 use Rattle.meaning.specs.Verdict.{cost}
 use Rattle.meaning.specs.Check.{refused, readable, readFiles, answer, tableAfter}
-use Rattle.meaning.specs.Feasible.{Feasible}
+use Rattle.meaning.specs.Feasible.{LoadingFeasible, Feasible}
 use Rattle.meaning.specs.Reorder.{Reordered}
 use Rattle.meaning.specs.Stopped.{HandedBackRefused}
 use Rattle.meaning.specs.Print.{printedInstance, printedPlan}
@@ -204,7 +204,13 @@ Decided m =
     (tableLength : ℕ) (instance plan : List ℕ) (r : ReadableInto m tableLength instance plan)
     → DecidedBy (r .files .says) (r .files .stacks) (answer m tableLength instance plan)
 
--- ---- demand 3 (proofs/Feasible: accepted-when-feasible; proofs/AnyOrder: order-free, any-order)
+-- ---- demand 3 (proofs/Feasible: loading-kept-exactly, accepted-when-feasible; proofs/AnyOrder: order-free, any-order)
+-- a readable plan keeps all rules but 9 exactly when its picture holds but for rule 9
+abbrev pub LoadingKeptExactly : Limits → Type 0
+LoadingKeptExactly m =
+    (instance plan : List ℕ) (r : Readable m instance plan)
+    → Every (KeptBy (r .says) (r .stacks)) loadingRules ↔ LoadingFeasible (r .says) (r .stacks)
+
 -- a readable plan is accepted exactly when its picture holds
 abbrev pub AcceptedWhenFeasible : Limits → Type 0
 AcceptedWhenFeasible m =
@@ -242,6 +248,7 @@ pub record Theorems (m : Limits) : Type 0 where
   pub handedBackRefused : HandedBackRefused m
   pub readableExactly : ReadableExactly m
   pub decided : Decided m
+  pub loadingKeptExactly : LoadingKeptExactly m
   pub acceptedWhenFeasible : AcceptedWhenFeasible m
   pub orderFree : OrderFree m
   pub anyOrder : AnyOrder m

@@ -53,7 +53,11 @@ pub record Once (n : ℕ) (l : List ℕ) : Type 0 where
   pub only : (k : ℕ) → Stands l n k → k ≡ at
 
 -- ---- item rules, 9 to 14
--- item n of the instance in stack s
+-- 9: each item stands once among the load entries of the whole plan
+abbrev pub EachOnce : Instance → List Stack → Type 0
+EachOnce i p = (n : ℕ) → 1 ≤ n → n ≤ length (i .items) → Once n (flatMap (λ (s : Stack). s .load) p)
+
+-- 10 to 14, for item n of stack s
 pub record ItemFits (i : Instance) (s : Stack) (n : ℕ) : Type 0 where
   -- 10: the truck goes to its plant
   pub plant : IP (item i n) ≡ TP (truckOf i s)
@@ -71,7 +75,7 @@ pub record ItemFits (i : Instance) (s : Stack) (n : ℕ) : Type 0 where
   pub plantDock : In (IG (item i n)) (truckOf i s .plantDocks)
 
 -- ---- stack rules, 15 to 21
--- item n of stack s
+-- 15, 18 and 20, for item n of stack s
 pub record ItemStacks (i : Instance) (s : Stack) (n : ℕ) : Type 0 where
   -- 15: it is like the bottom item
   pub supplier : IU (item i n) ≡ IU (bottomItem i s)
@@ -119,6 +123,13 @@ pub record StackFits (i : Instance) (s : Stack) : Type 0 where
   -- 21: sm × 1000000 is at most TEM × sl × sw
   pub density : (weightOf i (s .load) *ℤ pos 1000000) ≤ℤ (pos (TEM (truckOf i s)) *ℤ pos (IL (bottomItem i s)) *ℤ pos (IW (bottomItem i s)))
 
+-- 15 to 21 for the stacks of a plan
+pub record StacksFit (i : Instance) (p : List Stack) : Type 0 where
+  pub each : (s : Stack) → In s p → StackFits i s
+  -- 17: two stacks of one code on one used truck do not both have two plant docks
+  pub singlePair : (s r : Stack) → In s p → In r p → SameTruck s r → (number s ≡ number r → ⊥) → IS (bottomItem i s) ≡ IS (bottomItem i r)
+      → HasTwoDocks i s → HasTwoDocks i r → ⊥
+
 -- ---- the height of a stack: "the sum of IH less the nesting heights of all but the bottom item"
 abbrev pub heightOf : Instance → Stack → ℤ
 heightOf i s = sumℤ (λ n. pos (IH (item i n))) (s .load) -ℤ sumℤ (λ n. pos (nesting (item i n))) (drop 1 (s .load))
@@ -144,17 +155,12 @@ pub data MustPrecede (i : Instance) (s r : Stack) : Type 0 where
       → (((n m : ℕ) → In n (s .load) → In m (r .load) → NotLater (truckOf i s .plantDocks) (IG (item i m)) (IG (item i n))) → ⊥)
       → MustPrecede i s r
 
--- ---- part 1, rules: the item and stack rules, "each stack's height at most TH, the load limit W1, the loading order P4"
+-- ---- part 1, rules: the item and stack rules, "each stack's height at most TH, the load limit W1, the loading order P4"; here all but 9
 pub record RulesHold (i : Instance) (p : List Stack) : Type 0 where
-  -- 9: each item stands once among the load entries of the whole plan
-  pub once : (n : ℕ) → 1 ≤ n → n ≤ length (i .items) → Once n (flatMap (λ (s : Stack). s .load) p)
   -- 10 to 14, for each item where it is loaded
   pub items : (s : Stack) → In s p → (n : ℕ) → In n (s .load) → ItemFits i s n
-  -- 15, 16 and 18 to 21, for each stack
-  pub stacks : (s : Stack) → In s p → StackFits i s
-  -- 17: two stacks of one code on one used truck do not both have two plant docks
-  pub singlePair : (s r : Stack) → In s p → In r p → SameTruck s r → (number s ≡ number r → ⊥) → IS (bottomItem i s) ≡ IS (bottomItem i r)
-      → HasTwoDocks i s → HasTwoDocks i r → ⊥
+  -- 15 to 21
+  pub stacks : StacksFit i p
   -- "each stack's height at most TH"
   pub heights : (s : Stack) → In s p → heightOf i s ≤ℤ pos (TH (truckOf i s))
   -- W1, for the used truck of each stack
@@ -228,7 +234,8 @@ pub record AxleLoadsWithin (i : Instance) (p : List Stack) (s : Stack) (k : ℕ)
       ≤ℤ (pos 2 *ℤ pos (EJhr t) *ℤ pos (EMmr t))
 
 -- ---- the picture, which is document 01's word for it: "It holds when all five parts do"
-pub record Feasible (i : Instance) (p : List Stack) : Type 0 where
+-- the five parts but for rule 9: what is loaded is loaded well, whether or not it is all that there is to load
+pub record LoadingFeasible (i : Instance) (p : List Stack) : Type 0 where
   pub rules : RulesHold i p
   -- "No square lies under two stacks of one used truck": a stack is known by its number
   pub floor : (s r : Stack) → In s p → In r p → SameTruck s r → (number s ≡ number r → ⊥) → (u v : ℕ) → Under i s u v → Under i r u v → ⊥
@@ -238,3 +245,9 @@ pub record Feasible (i : Instance) (p : List Stack) : Type 0 where
   pub chains : (s : Stack) → In s p → (rest : List Stack) × Chain i p (s ∷ rest)
   -- "a loaded departure is one that counts in W2": k from 1 to the truck's suppliers, with a stack on
   pub levers : (s : Stack) → In s p → (k : ℕ) → 1 ≤ k → k ≤ length (truckOf i s .suppliers) → onAt i s k s ≡ true → AxleLoadsWithin i p s k (truckOf i s)
+
+-- the five parts whole
+pub record Feasible (i : Instance) (p : List Stack) : Type 0 where
+  -- 9, of the first part
+  pub once : EachOnce i p
+  pub loading : LoadingFeasible i p

@@ -26,6 +26,10 @@ unfoldable pub stackPlaces : (Instance → List Stack → Stack → Bool) → (I
 unfolding flatMap
 stackPlaces kept amount i p = flatMap (λ (s : Stack). onlyIf (not (kept i p s)) (place (number s) (amount i s) 0)) p
 
+-- no second place: (stack)
+abbrev pub noAmount : Instance → Stack → ℕ
+noAmount i s = 0
+
 -- (stack, stack), over each two stacks of a used truck, in both orders
 unfoldable pub pairPlaces : (Instance → Stack → Stack → Bool) → Instance → List Stack → List Place
 unfolding flatMap
@@ -171,10 +175,6 @@ bracedBy i s r = another s r && inContact i s r
 abbrev pub braced : Instance → List Stack → Stack → Bool
 braced i p s = eqb (x s) 0 || any (bracedBy i s) p
 
--- no second place
-abbrev pub noAmount : Instance → Stack → ℕ
-noAmount i s = 0
-
 -- P4 (3): "every plant dock order of s1 at most every one of s2"
 unfoldable pub docksNotAfter : Instance → Stack → Stack → Bool
 unfolding all orderFrom
@@ -224,51 +224,59 @@ infix 80 _at_
 abbrev pub _at_ : ℕ → (Instance → List Stack → List Place) → Rule
 n at places = record { verdict = n; places = places }
 
--- "Item rules are 9 to 14"
+-- 9 not once stands apart: it alone asks for items that no stack has
+abbrev pub notOnceRule : Rule
+notOnceRule = 9 at notOnce
+
+-- the item rules but for 9: "Item rules are 9 to 14"
 unfoldable pub itemRules : List Rule
-unfolding notOnce itemPlaces any orderFrom
+unfolding itemPlaces any orderFrom
 itemRules =
-    9 at notOnce
-    ∷ 10 at itemPlaces plantMatches
-    ∷ 11 at itemPlaces productCarried
-    ∷ 12 at itemPlaces supplierVisited
-    ∷ 13 at itemPlaces arrivesInWindow
-    ∷ 14 at itemPlaces docksServed
+    10 at itemPlaces plantMatches  -- plant
+    ∷ 11 at itemPlaces productCarried  -- product
+    ∷ 12 at itemPlaces supplierVisited  -- supplier
+    ∷ 13 at itemPlaces arrivesInWindow  -- day
+    ∷ 14 at itemPlaces docksServed  -- dock
     ∷ []
 
 -- "stack rules 15 to 21"
 unfoldable pub stackRules : List Rule
 unfolding itemPlaces stackPlaces pairPlaces plantDocksOf consecutive orderFrom weight
 stackRules =
-    15 at itemPlaces stackable
-    ∷ 16 at stackPlaces plantDocksAllowed plantDockCount
-    ∷ 17 at pairPlaces singlePair
-    ∷ 18 at itemPlaces orientationKept
-    ∷ 19 at stackPlaces topWeightWithin weightAbove
-    ∷ 20 at stackPlaces stackabilityKept itemCount
-    ∷ 21 at stackPlaces densityWithin sm
+    15 at itemPlaces stackable  -- mixed
+    ∷ 16 at stackPlaces plantDocksAllowed plantDockCount  -- docks
+    ∷ 17 at pairPlaces singlePair  -- second pair
+    ∷ 18 at itemPlaces orientationKept  -- turned
+    ∷ 19 at stackPlaces topWeightWithin weightAbove  -- top heavy
+    ∷ 20 at stackPlaces stackabilityKept itemCount  -- too many
+    ∷ 21 at stackPlaces densityWithin sm  -- dense
     ∷ []
 
 -- placement rules, 22 to 25
 unfoldable pub placementRules : List Rule
 unfolding stackPlaces pairPlaces height any loadsBefore
 placementRules =
-    22 at stackPlaces inside exceededSide
-    ∷ 23 at pairPlaces disjoint
-    ∷ 24 at stackPlaces braced noAmount
-    ∷ 25 at pairPlaces inLoadingOrder
+    22 at stackPlaces inside exceededSide  -- outside
+    ∷ 23 at pairPlaces disjoint  -- overlap
+    ∷ 24 at stackPlaces braced noAmount  -- unbraced
+    ∷ 25 at pairPlaces inLoadingOrder  -- order
     ∷ []
 
 -- weight rules, 26 to 28
 unfoldable pub weightRules : List Rule
 unfolding truckPlaces departurePlaces withinLoadLimit middleAxleHolds rearAxleHolds
 weightRules =
-    26 at truckPlaces withinLoadLimit
-    ∷ 27 at departurePlaces middleAxleHolds
-    ∷ 28 at departurePlaces rearAxleHolds
+    26 at truckPlaces withinLoadLimit  -- overload
+    ∷ 27 at departurePlaces middleAxleHolds  -- middle
+    ∷ 28 at departurePlaces rearAxleHolds  -- rear
     ∷ []
 
--- all of 9 to 28
-unfoldable pub rules : List Rule
+-- all rules but 9, in the order of the verdict table: a verdict's number is a rule's name, and not its place
+unfoldable pub loadingRules : List Rule
 unfolding itemRules stackRules placementRules weightRules
-rules = itemRules ++ (stackRules ++ (placementRules ++ weightRules))
+loadingRules = itemRules ++ (stackRules ++ (placementRules ++ weightRules))
+
+-- all rules
+unfoldable pub rules : List Rule
+unfolding notOnce loadingRules
+rules = notOnceRule ∷ loadingRules

@@ -1,7 +1,7 @@
 -- Document 01, "The working table": the model as words, and the model that words hold. Where a word stands is said here alone.
 use mathlib.Core.List.{List, [], _∷_, _++_, map, flatMap}
 use Prim.Native.Nat.{ℕ, _+_, _-_, _*_}
-use lib.ListN.{length, getD, take, drop}
+use lib.ListN.{length, getD, take, drop, replicate}
 use Rattle.meaning.specs.declared.Limits.{Limits}
 use Rattle.meaning.specs.Lists.{chunks, padded}
 use Rattle.meaning.specs.Limits.{itemsAt, trucksAt, stacksAt, loadsAt}
@@ -20,8 +20,12 @@ headWords i p = i .αT ∷ i .αI ∷ i .αE ∷ length (i .items) ∷ length (i
 abbrev pub countedWords : ℕ → List ℕ → List ℕ
 countedWords w l = length l ∷ padded w l
 
+-- the words behind a truck's plant docks, which belong to no line: "Other named words are zero"
+abbrev pub spareWords : ℕ
+spareWords = 17
+
 -- "20 fields; 20 product count, 21 products; 53 supplier count, 54 suppliers; 62 dock counts; 70 docks, 8 per supplier;
--- 134 plant dock count, 135 plant docks", 160 in all
+-- 134 plant dock count, 135 plant docks", 160 in all with the spare words
 unfoldable pub truckWords : Truck → List ℕ
 unfolding flatMap
 truckWords t =
@@ -30,7 +34,8 @@ truckWords t =
     ++ (countedWords 8 (t .suppliers)
     ++ (padded 8 (map length (t .docks))
     ++ (padded 64 (flatMap (padded 8) (t .docks))
-    ++ countedWords 25 (t .plantDocks)))))
+    ++ (countedWords 8 (t .plantDocks)
+    ++ replicate spareWords 0)))))
 
 -- "stacks in file order, 8 each: six fields, first load index (among the loads, from 0), load count"; `before` entries stand before
 unfoldable pub stackWords : ℕ → List Stack → List ℕ

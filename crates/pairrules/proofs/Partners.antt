@@ -21,14 +21,15 @@ use Rattle.meaning.proofs.Tests.{true≢false, and-reads, not-reads, eq-reads, 
 use Rattle.meaning.proofs.Lists.{at-in, in-at, in-onlyIf, in-flatMap}
 use Rattle.meaning.proofs.Permute.{perm-same}
 use Rattle.meaning.proofs.RuleKinds.{used-reads}
-use Rattle.meaning.proofs.Sound.{meets-sound}
+use Rattle.meaning.proofs.WellFormed.{meets-formed}
 use Rattle.table.specs.Filled.{noStack}
 use Rattle.visits.specs.Visits.{visitOrder, visitAt, visited, HoldsRows, OneTruck, Parted}
 use Rattle.visits.proofs.Order.{order-within, order-rising, visited-length, visited-at, visited-perm}
 use Rattle.visits.proofs.Reading.{run-before, run-behind}
-use Rattle.pairrules.specs.declared.PairRule.{PairRule}
-use Rattle.pairrules.specs.declared.PairRule.the-variants.{SecondPair, Overlap, Order}
-use Rattle.pairrules.specs.PairRules.{pairTest, PartnersFrom, PartnersOf}
+use Rattle.rules.specs.declared.PairRule.{PairRule}
+use Rattle.rules.specs.declared.PairRule.the-variants.{SecondPair, Overlap, Order}
+use Rattle.rules.specs.LoadingRules.{pairTest}
+use Rattle.pairrules.specs.PairRules.{PartnersFrom, PartnersOf}
 use Rattle.pairrules.proofs.Pairs.{self-in-order}
 
 -- ---- the places of broken pairs
@@ -83,6 +84,10 @@ module _ {m : Limits} {t rows : List ℕ} (h : HoldsRows m t rows) where
       let inside : w .0 < length p = omega (arith, w .1, visited-length p) in
       (w .0, inside, w .2 ∙ visited-at p (w .0) inside)
 
+  -- a stack is known by its number
+  pub one-stack : (s r : Stack) → In s p → In r p → number s ≡ number r → s ≡ r
+  one-stack = meets-formed m i p (h .filled .range) .known
+
   -- on one used truck the number does not fall
   pub number-upto : (j k : ℕ) → j ≤ k → k < length p → usedBy (visitAt p j) ≡ usedBy (visitAt p k) → number (visitAt p j) ≤ number (visitAt p k)
   number-upto j k upto inside used =
@@ -126,5 +131,5 @@ module _ {m : Limits} {t rows : List ℕ} (h : HoldsRows m t rows) where
     partner-differs SecondPair from k low up breaks e = omega (arith, behind .0 .rising a k (omega arith) (omega arith) up)
     partner-differs Overlap from k low up breaks e = omega (arith, behind .0 .rising a k (omega arith) (omega arith) up)
     partner-differs Order from k low up breaks e =
-        let same = meets-sound m i p (h .filled .range) .known _ _ (stack-in a inside-a) (stack-in k (omega (arith, behind .0 .within))) e in
+        let same = one-stack _ _ (stack-in a inside-a) (stack-in k (omega (arith, behind .0 .within))) e in
         true≢false (sym (self-in-order i (visitAt p a)) ∙ ap (inLoadingOrder i (visitAt p a)) same ∙ breaks)

@@ -7,14 +7,14 @@ use Prim.Native.Nat.{ℕ, _≤_, _<_}
 use borrow.Author.Tests.{le-leb, lt-leb, eq-eqb, ne-eqb}
 use lib.Dec.{leb, ltb, eqb}
 use Rattle.meaning.specs.Lists.{all}
-use Rattle.meaning.specs.Model.{Instance, Stack, item}
+use Rattle.meaning.specs.Model.{Instance, Stack, item, truck}
 use Rattle.meaning.specs.Measures.{plantDockOrder}
 use Rattle.meaning.specs.Rules.{docksNotAfter, loadsBefore}
 use Rattle.meaning.proofs.Tests.{le-reads, same-test, iff-trans, iff-sym}
 use Rattle.meaning.proofs.Lists.{all-every}
 use Rattle.views.specs.declared.Rank.{Rank}
-use Rattle.views.specs.Views.{plantDockOrders, spanOf, rankOf}
-use Rattle.views.proofs.Spans.{span-low, span-high}
+use Rattle.views.specs.Views.{plantDockOrders, rangeOf, rankOf}
+use Rattle.views.proofs.OrderRanges.{range-low, range-high}
 use Rattle.visits.specs.Visits.{rowWord, rankAt}
 use Rattle.pairrules.specs.PairRules.{ranksBefore, inOrderAt}
 
@@ -30,33 +30,33 @@ pub one-supplier : (a b : Rank) → a .supplier ≡ b .supplier
     ≡ ranksBefore a b
 one-supplier a b e = rw (eq-eqb (a .supplier) (b .supplier) e) refl
 
--- ---- spans
+-- ---- ranges of loading orders
 module _ {A : Type 0} where
   -- numbers that are at most 8 are each at most each of others where the highest is at most the lowest of those
-  all-spans : (f g : A → ℕ) → ((a : A) → f a ≤ 8) → (l l′ : List A)
-      → all (λ a. all (λ b. leb (f a) (g b)) l′) l ≡ leb (spanOf (map f l) .highest) (spanOf (map g l′) .lowest)
-  all-spans f g few l l′ =
-      let high = spanOf (map f l) .highest in
-      let low = spanOf (map g l′) .lowest in
-      same-test _ (leb high low) (iff-trans (all-every _ (λ (a : A). f a ≤ low) each l) (iff-trans (iff-sym (span-high f l low)) (iff-sym (le-reads high low))))
+  all-ranges : (f g : A → ℕ) → ((a : A) → f a ≤ 8) → (l l′ : List A)
+      → all (λ a. all (λ b. leb (f a) (g b)) l′) l ≡ leb (rangeOf (map f l) .highest) (rangeOf (map g l′) .lowest)
+  all-ranges f g few l l′ =
+      let high = rangeOf (map f l) .highest in
+      let low = rangeOf (map g l′) .lowest in
+      same-test _ (leb high low) (iff-trans (all-every _ (λ (a : A). f a ≤ low) each l) (iff-trans (iff-sym (range-high f l low)) (iff-sym (le-reads high low))))
     where
-      each : (a : A) → (all (λ b. leb (f a) (g b)) l′ ≡ true) ↔ (f a ≤ spanOf (map g l′) .lowest)
+      each : (a : A) → (all (λ b. leb (f a) (g b)) l′ ≡ true) ↔ (f a ≤ rangeOf (map g l′) .lowest)
       each a =
           iff-trans (all-every _ (λ (b : A). f a ≤ g b) (λ b. le-reads (f a) (g b)) l′)
-          ((λ h. span-low g l′ (f a) .1 (few a, h)), (λ h. span-low g l′ (f a) .0 h .1))
+          ((λ h. range-low g l′ (f a) .1 (few a, h)), (λ h. range-low g l′ (f a) .0 h .1))
 
 -- ---- P4 (3), on stacks whose plant dock orders are at most 8
 abbrev pub FewOrders : Instance → Stack → Type 0
 FewOrders i s = (n : ℕ) → plantDockOrder i s (item i n) ≤ 8
 
-docks-span : (i : Instance) (s r : Stack) → FewOrders i s
-    → docksNotAfter i s r ≡ leb (spanOf (plantDockOrders i s) .highest) (spanOf (plantDockOrders i r) .lowest)
+docks-range : (i : Instance) (s r : Stack) → FewOrders i s
+    → docksNotAfter i s r ≡ leb (rangeOf (plantDockOrders i (truck s) (s .load)) .highest) (rangeOf (plantDockOrders i (truck r) (r .load)) .lowest)
 unfolding docksNotAfter plantDockOrders
-docks-span i s r few = all-spans (λ n. plantDockOrder i s (item i n)) (λ m. plantDockOrder i r (item i m)) few (s .load) (r .load)
+docks-range i s r few = all-ranges (λ n. plantDockOrder i s (item i n)) (λ m. plantDockOrder i r (item i m)) few (s .load) (r .load)
 
-pub ranks-before : (i : Instance) (s r : Stack) → FewOrders i s → FewOrders i r → ranksBefore (rankOf i s) (rankOf i r) ≡ loadsBefore i s r
+pub ranks-before : (i : Instance) (s r : Stack) → FewOrders i s → FewOrders i r → ranksBefore (rankOf i (truck s) (s .load)) (rankOf i (truck r) (r .load)) ≡ loadsBefore i s r
 unfolding rankOf loadsBefore
-ranks-before i s r few few′ = rw (docks-span i s r few, docks-span i r s few′) refl
+ranks-before i s r few few′ = rw (docks-range i s r few, docks-range i r s few′) refl
 
 -- ---- 25 order, as the code asks it: x first
 pub in-front : (order : Bool) (u v : ℕ) → u ≤ v → true ≡ (order || leb u v)

@@ -20,20 +20,20 @@ use Rattle.meaning.specs.Claims.{Before}
 use Rattle.meaning.specs.Table.{instanceIn, stacksIn}
 use Rattle.meaning.proofs.Tests.{true≢false}
 use Rattle.meaning.proofs.RuleKinds.{used-reads}
-use Rattle.meaning.proofs.Sound.{meets-sound}
 use Rattle.search.specs.declared.Found.the-variants.{At, Nothing}
 use Rattle.search.specs.Lowest.{lowestIn}
 use Rattle.search.proofs.Lowest.{found-first, found-none}
 use Rattle.visits.specs.declared.Block.{Block}
 use Rattle.visits.specs.Visits.{visitAt, HoldsRows, rowWord}
 use Rattle.visits.proofs.Reading.{word-is, run-before}
-use Rattle.pairrules.specs.declared.PairRule.{PairRule}
-use Rattle.pairrules.specs.declared.PairRule.the-variants.{SecondPair, Overlap, Order}
-use Rattle.pairrules.specs.PairRules.{pairTest, SortedRows, placeAt, wholePlan, PartnersFrom, PartnersOf}
+use Rattle.rules.specs.declared.PairRule.{PairRule}
+use Rattle.rules.specs.declared.PairRule.the-variants.{SecondPair, Overlap, Order}
+use Rattle.rules.specs.LoadingRules.{pairTest}
+use Rattle.pairrules.specs.PairRules.{SortedRows, placeAt, wholePlan, PartnersFrom, PartnersOf}
 use Rattle.pairrules.proofs.Places.{Upto, upto-start, upto-more, upto-kept, same-told}
 use Rattle.pairrules.proofs.Sorted.{place-within, place-there, word-rising}
 use Rattle.pairrules.proofs.Pairs.{single-turned, disjoint-turned}
-use Rattle.pairrules.proofs.Partners.{Broken, pair-listed, listed-pair, stack-in, stack-place, number-upto, behind, inside-a, before-end, some-partners, partner-used, partner-differs}
+use Rattle.pairrules.proofs.Partners.{Broken, pair-listed, listed-pair, stack-in, stack-place, one-stack, number-upto, behind, inside-a, before-end, some-partners, partner-used, partner-differs}
 
 -- ---- what the loops have passed
 -- a stack keeps a rule with every other on its used truck
@@ -199,7 +199,7 @@ module _ {rule : PairRule} {m : Limits} {t rows order : List ℕ} {k : ℕ} (sta
         none-before u v w (inl less) =
             true≢false (sym (earlier (l .inside) u (w .first) (rw (l .is) at less) v (w .second) (w .used) (w .differ)) ∙ w .breaks)
         none-before u v w (inr (same, inl less)) =
-            let one : u ≡ s = meets-sound m i p (stacks .held .filled .range) .known u s (w .first) (found .first) same in
+            let one : u ≡ s = one-stack (stacks .held) u s (w .first) (found .first) same in
             let z = stack-place (stacks .held) v (w .second) in
             let used : usedBy s ≡ usedBy (visitAt p (z .0)) = sym (ap usedBy one) ∙ w .used ∙ ap usedBy (z .2) in
             let differ : number s ≡ number (visitAt p (z .0)) → ⊥ = λ q. w .differ (ap number one ∙ q ∙ sym (ap number (z .2))) in

@@ -1,4 +1,4 @@
--- The rules on two stacks of one used truck, by the names that the code has for them, and their tests on what the rows keep of a stack.
+-- The tests of the rules on two stacks on what the rows keep of a stack, and the places of the rows that are asked.
 use mathlib.Core.Path.{_≡_}
 use mathlib.Core.Bool.{Bool, not, _&&_, _||_}
 use mathlib.Core.List.{List}
@@ -6,22 +6,14 @@ use Prim.Native.Nat.{ℕ, _+_, _-_, _≤_, _<_}
 use lib.Dec.{leb, ltb, eqb}
 use lib.ListN.{length, getD, take}
 use Rattle.meaning.specs.Lists.{upFrom}
-use Rattle.meaning.specs.Model.{Instance, Stack}
-use Rattle.meaning.specs.Rules.{singlePair, disjoint, inLoadingOrder}
 use Rattle.views.specs.declared.Footprint.{Footprint}
 use Rattle.views.specs.declared.Rank.{Rank}
 use Rattle.visits.specs.declared.Block.{Block}
 use Rattle.visits.specs.Visits.{sortBy, rowWord, footprintAt, rankAt, RunBefore, RunBehind}
-use Rattle.pairrules.specs.declared.PairRule.{PairRule}
-use Rattle.pairrules.specs.declared.PairRule.the-variants.{SecondPair, Overlap, Order}
+use Rattle.rules.specs.declared.PairRule.{PairRule}
+use Rattle.rules.specs.declared.PairRule.the-variants.{SecondPair, Overlap, Order}
 
--- when a rule on two stacks is kept: 17 second pair, 23 overlap, 25 order
-abbrev pub pairTest : PairRule → Instance → Stack → Stack → Bool
-pairTest SecondPair i s r = singlePair i s r
-pairTest Overlap i s r = disjoint i s r
-pairTest Order i s r = inLoadingOrder i s r
-
--- ---- the tests on what the rows keep
+-- ---- the tests
 -- P2 on the ground that two stacks take
 abbrev pub disjointFootprints : Footprint → Footprint → Bool
 disjointFootprints a b = leb (a .xe) (b .x) || leb (b .xe) (a .x) || leb (a .ye) (b .y) || leb (b .ye) (a .y)

@@ -9,11 +9,13 @@ ghost use lib.ListN.{length};
 ghost use Rattle.meaning.specs.Table.{instanceIn, stacksIn};
 ghost use Rattle.meaning.specs.Rules.{pairPlaces, singlePair};
 ghost use Rattle.search.specs.Lowest.{lowestIn};
+ghost use Rattle.rules.specs.LoadingRules.{pairTest};
 ghost use Rattle.visits.specs.Visits.{visitAt, block, HoldsRows, OneTruck};
-ghost use Rattle.pairrules.specs.PairRules.{pairTest, disjointFootprints, footprintsInContact, ranksBefore, inOrderAt};
+ghost use Rattle.pairrules.specs.PairRules.{disjointFootprints, footprintsInContact, ranksBefore, inOrderAt};
 ghost use Rattle.pairrules.specs.PairRules.{Each, SortedRows, wholePlan, PartnersOf};
 use meaning::Limits;
 use meaning::Place;
+use rules::PairRule;
 use search::Found;
 use table::fields::IS;
 use table::stack_count;
@@ -30,13 +32,6 @@ use visits::sort;
 use visits::stack_at;
 use visits::truck_end;
 use visits::truck_start;
-
-// The rules on two stacks.
-pub enum PairRule {
-    SecondPair, // 17
-    Overlap, // 23
-    Order, // 25
-}
 
 // ---- the tests
 

@@ -17,8 +17,8 @@ use Rattle.meaning.specs.Rules.{stackPlaces, disjoint, inContact, bracedBy, bra
 use Rattle.meaning.specs.Table.{instanceIn, stacksIn}
 use Rattle.meaning.proofs.Tests.{same-test, and-reads, iff-trans}
 use Rattle.meaning.proofs.Lists.{any-reads, in-flatMap, in-upFrom}
-use Rattle.meaning.proofs.Sound.{meets-sound}
-use Rattle.meaning.proofs.Extents.{sound-ends}
+use Rattle.meaning.proofs.WellFormed.{meets-formed}
+use Rattle.meaning.proofs.Extents.{formed-ends}
 use Rattle.search.specs.Lowest.{lowestIn}
 use Rattle.search.proofs.Lowest.{lowest-members}
 use Rattle.visits.specs.declared.Block.{Block}
@@ -28,7 +28,7 @@ use Rattle.visits.proofs.Reading.{word-is}
 use Rattle.pairrules.specs.PairRules.{inContactAt, Inside, EachTwo}
 use Rattle.pairrules.proofs.Places.{block-has, block-pairs}
 use Rattle.pairrules.proofs.Reading.{disjoint-is, contact-is, order-is}
-use Rattle.pairrules.proofs.Partners.{another-is, stack-in}
+use Rattle.pairrules.proofs.Partners.{another-is, stack-in, one-stack}
 use Rattle.placement.specs.declared.Placement.{Placement}
 use Rattle.placement.specs.Placed.{TruckRows, bracedAt, unbracedPlaces, PlacedRows, PlacedStacks}
 
@@ -57,7 +57,7 @@ module _ {m : Limits} {t rows : List ℕ} {on : Block} (h : HoldsRows m t rows) 
   extent : (k : ℕ) → k < on .end → rowWord rows k 4 < rowWord rows k 5
   extent k up =
       let there = stack-in h k (within k up) in
-      let long = sound-ends i (visitAt p k) (meets-sound m i p (h .filled .range) .stacks (visitAt p k) there) .long in
+      let long = formed-ends i (visitAt p k) (meets-formed m i p (h .filled .range) .stacks (visitAt p k) there) .long in
       rw (word-is h k (within k up) 4 (omega arith), word-is h k (within k up) 5 (omega arith)) long
 
   pub truck-rows : TruckRows rows on
@@ -83,7 +83,7 @@ module _ {m : Limits} {t rows : List ℕ} {on : Block} (h : HoldsRows m t rows) 
           another-is s r .1 (
             used,
             λ q.
-                let same = meets-sound m i p (h .filled .range) .known s r (stack-in h k lk) (stack-in h j lj) q in
+                let same = one-stack h s r (stack-in h k lk) (stack-in h j lj) q in
                 let begins : rowWord rows k 4 ≡ rowWord rows j 4 = word-is h k lk 4 (omega arith) ∙ ap x same ∙ sym (word-is h j lj 4 (omega arith)) in
                 let ends = eqb-true (rowWord rows j 5) (rowWord rows k 4) (and-reads _ _ .0 (and-reads _ _ .0 e .0) .0) in
                 omega (arith, begins, ends, extent j (b .1)),

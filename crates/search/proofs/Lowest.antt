@@ -15,7 +15,7 @@ use Rattle.meaning.specs.Claims.{Before}
 use Rattle.meaning.proofs.Lists.{in-append, Down, down-start, down-more, down-end}
 use Rattle.meaning.proofs.Permute.{Same, same-refl}
 use Rattle.meaning.proofs.Lowest.{lowest-is, lowest-one, lowest-same}
-use Rattle.search.specs.Lowest.{foundOf, lowestIn, lowerFound}
+use Rattle.search.specs.Lowest.{foundOf, lowestIn, lowerPlace, lowerFound}
 use Rattle.search.specs.declared.Found.{Found}
 use Rattle.search.specs.declared.Found.the-variants.{At, Nothing}
 
@@ -27,18 +27,12 @@ pub lower-tested : (p q : Place)
 unfolding lower belowOr
 lower-tested p q = rw (and-false (eqb (p .third) (q .third)), or-false (ltb (p .third) (q .third))) refl
 
-pub second-lower : (p q : Place) → lower q p ≡ true → At q ≡ lowerFound (At p) (At q)
-second-lower p q e = rw e refl
-
-pub first-lower : (p q : Place) → lower q p ≡ false → At p ≡ lowerFound (At p) (At q)
-first-lower p q e = rw e refl
-
 -- ---- two answers, as `match` takes them apart
 pub one-found : (a b : Found) (p : Place) → a ≡ At p → b ≡ Nothing → At p ≡ lowerFound a b
 one-found a b p ea eb = rw (ea, eb) refl
 
-pub both-found : (a b r : Found) (p q : Place) → a ≡ At p → b ≡ At q → r ≡ lowerFound (At p) (At q) → r ≡ lowerFound a b
-both-found a b r p q ea eb er = rw (ea, eb) er
+pub both-found : (a b : Found) (p q : Place) {r : Place} → a ≡ At p → b ≡ At q → r ≡ lowerPlace p q → At r ≡ lowerFound a b
+both-found a b p q ea eb er = rw (ea, eb, er) refl
 
 -- ---- one test
 pub broken-at : (broken : Bool) (p : Place) → broken ≡ true → At p ≡ lowestIn (onlyIf broken p)
@@ -85,13 +79,9 @@ lowest-more : (p : Place) (ps : List Place) → lowestIn (p ∷ ps) ≡ lowerFou
 unfolding lowestIn lowest lowerOf
 lowest-more p ps = go (lowest ps)
   where
-    either : (t : Bool) (q : Place) → foundOf (some (cond t q p)) ≡ cond t (At q) (At p)
-    either true q = refl
-    either false q = refl
-
     go : (o : Option Place) → foundOf (lowerOf p o) ≡ lowerFound (At p) (foundOf o)
     go none = refl
-    go (some q) = either (lower q p) q
+    go (some q) = refl
 
 lowest-turned : (xs ys : List Place) → lowestIn (xs ++ ys) ≡ lowestIn (ys ++ xs)
 lowest-turned xs ys = lowest-members (xs ++ ys) (ys ++ xs) (turned xs ys, turned ys xs)

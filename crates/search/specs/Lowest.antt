@@ -17,8 +17,12 @@ unfoldable pub lowestIn : List Place → Found
 unfolding lowest
 lowestIn ps = foundOf (lowest ps)
 
+-- the lower of two places
+abbrev pub lowerPlace : Place → Place → Place
+lowerPlace p q = cond (lower q p) q p
+
 -- the lower of two answers
 abbrev pub lowerFound : Found → Found → Found
 lowerFound Nothing b = b
 lowerFound (At p) Nothing = At p
-lowerFound (At p) (At q) = cond (lower q p) (At q) (At p)
+lowerFound (At p) (At q) = At (lowerPlace p q)

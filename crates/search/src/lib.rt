@@ -4,7 +4,7 @@ ghost use mathlib.Core.Logic.{_↔_};
 ghost use mathlib.Core.Bool.{true};
 ghost use Rattle.meaning.specs.Lists.{onlyIf};
 ghost use Rattle.meaning.specs.Places.{place, lower};
-ghost use Rattle.search.specs.Lowest.{lowestIn, lowerFound};
+ghost use Rattle.search.specs.Lowest.{lowestIn, lowerPlace, lowerFound};
 use meaning::Place;
 
 // The lowest place where a rule is broken, or none.
@@ -23,13 +23,13 @@ fn is_lower(p: Place, q: Place) -> bool
 }
 
 // The lower of two places.
-fn lower_place(p: Place, q: Place) -> Found
-    ensures { λ r. ⌜ r ≡ lowerFound (Found.At p) (Found.At q) ⌝ }
+pub fn lower_place(p: Place, q: Place) -> Place
+    ensures { λ r. ⌜ r ≡ lowerPlace p q ⌝ }
 {
     if is_lower(q, p) {
-        return Found::At(q);
+        return q;
     }
-    Found::At(p)
+    p
 }
 
 // The lower of two answers.
@@ -40,7 +40,7 @@ pub fn lower_of(a: Found, b: Found) -> Found
         Found::Nothing => b,
         Found::At(p) => match b {
             Found::Nothing => Found::At(p),
-            Found::At(q) => lower_place(p, q),
+            Found::At(q) => Found::At(lower_place(p, q)),
         },
     }
 }

@@ -3,3 +3,4 @@ pub mod Tally
 pub mod Docks
 pub mod Stacks
 pub mod Kept
+pub mod First

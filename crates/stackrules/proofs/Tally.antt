@@ -1,12 +1,12 @@
 -- Counting how often the stacks load each item, from the last stack to the first.
 use mathlib.Core.Path.{_≡_, refl, sym, ap, _∙_}
 use mathlib.Core.Bool.{Bool, true, false, cond, not}
-use mathlib.Core.List.{List, _∷_, flatMap}
+use mathlib.Core.List.{List, [], _∷_, flatMap}
 use Prim.Native.Nat.{ℕ, _+_, _-_, _≤_, _<_}
 use native.Mathlib.Omega.{arith}
 use borrow.Author.Tests.{eqb-true, eqb-false}
 use lib.Dec.{eqb}
-use lib.ListN.{length, getD, drop, set, replicate, length-append, length-drop, length-set, length-replicate, getD-replicate}
+use lib.ListN.{length, getD, drop, set, replicate, length-drop, length-set, length-replicate, getD-replicate}
 use lib.Seq.{drop-length, getD-set-same, getD-set-other}
 use Rattle.meaning.specs.declared.Limits.{Limits}
 use Rattle.meaning.specs.declared.Place.{Place}
@@ -17,13 +17,13 @@ use Rattle.meaning.specs.Rules.{timesLoaded, notOnce}
 use Rattle.meaning.specs.Table.{loadEntries, instanceIn, stacksIn}
 use Rattle.meaning.proofs.Lists.{drop-next, drop-back, flatMap-agree, in-upFrom, length-upFrom, upFrom-at}
 use Rattle.meaning.proofs.Sums.{sum-below, sum-drop, filter-most}
-use Rattle.table.specs.Filled.{Filled, noStack, stackAt}
+use Rattle.table.specs.Filled.{Filled, LoadInRange, noStack, stackAt}
 use Rattle.table.proofs.Access.{entries-length, few-entries}
 use Rattle.search.specs.Lowest.{lowestIn, lowerFound}
 use Rattle.search.specs.declared.Found.{Found}
 use Rattle.search.specs.declared.Found.the-variants.{Nothing}
 use Rattle.search.proofs.Lowest.{LowestFrom, from-start, from-more, from-end}
-use Rattle.stackrules.specs.StackRules.{Tally}
+use Rattle.stackrules.specs.StackRules.{Countable, Counted, Tally}
 
 -- ---- no count is above the number of load entries
 times-most : (n : ℕ) (p : List Stack) → timesLoaded p n ≤ length (loadEntries p)
@@ -34,32 +34,6 @@ times-most n p =
 
 entries-most : (k : ℕ) (p : List Stack) → length (loadEntries (drop k p)) ≤ length (loadEntries p)
 entries-most k p = rw (entries-length p, entries-length (drop k p)) (sum-drop (λ (s : Stack). length (s .load)) k p)
-
--- ---- a stack without the first j items of its load
-abbrev pub upper : ℕ → Stack → Stack
-upper j s = record { fields = s .fields; load = drop j (s .load) }
-
-upper-most : (j n : ℕ) (s : Stack) (p : List Stack) → timesLoaded (upper j s ∷ p) n ≤ length (loadEntries (s ∷ p))
-unfolding loadEntries flatMap
-upper-most j n s p =
-    let rest = loadEntries p in
-    omega (arith, times-most n (upper j s ∷ p), length-append (drop j (s .load)) rest, length-append (s .load) rest, length-drop j (s .load))
-
--- in a filled table there are at most 65,536 load entries, so no count is higher
-pub count-most : {m : Limits} {t times : List ℕ} (s j at n : ℕ) → Filled m t → s < length (stacksIn m t)
-    → Tally (length (instanceIn m t .items)) (upper j (stackAt (stacksIn m t) s) ∷ drop (s + 1) (stacksIn m t)) times
-    → at + 1 ≡ n → n ≤ length (instanceIn m t .items) → getD times at 0 ≤ 65536
-count-most {m} {t} {times} s j at n h k tally place top =
-    let p = stacksIn m t in
-    let split : drop s p ≡ stackAt p s ∷ drop (s + 1) p = drop-next p s noStack k in
-    let same : n - 1 ≡ at = omega arith in
-    omega (
-      arith,
-      rw same at (tally .counts n (omega arith) top),
-      upper-most j n (stackAt p s) (drop (s + 1) p),
-      rw split at (entries-most s p),
-      few-entries h,
-    )
 
 -- ---- one entry more, n at the place of its count, and the count of k
 count-more : (k n at rest : ℕ) (l times : List ℕ) → at < length times → at + 1 ≡ n → 1 ≤ k → getD times (k - 1) 0 ≡ length (filter (eqb k) l) + rest
@@ -75,7 +49,57 @@ count-more k n at rest l times inside place from is = go (eqb k n) refl
         let other : k - 1 ≡ at → ⊥ = λ z. eqb-false k n e (omega arith) in
         rw (getD-set-other times at (k - 1) (getD times at 0 + 1) 0 other) is
 
--- ---- the counts of all items
+-- ---- one load, from its top entry down
+-- the entries from j on are counted
+pub record Counting (load before : List ℕ) (j : ℕ) (times : List ℕ) : Type 0 where
+  pub upto : j ≤ length load
+  pub room : length times ≡ length before
+  pub counts : (n : ℕ) → 1 ≤ n → n ≤ length before → getD times (n - 1) 0 ≡ length (filter (eqb n) (drop j load)) + getD before (n - 1) 0
+
+module _ {load before : List ℕ} {j : ℕ} where
+  pub counting-none : j ≡ length load → Counting load before j before
+  unfolding filter
+  counting-none e =
+      let none : drop j load ≡ [] = rw e (drop-length load) in
+      record { upto = omega arith; room = refl; counts = λ n from upTo. rw none (omega arith) }
+
+  module _ {times : List ℕ} (able : Countable load before) (h : Counting load before j times) (more : 0 < j) where
+    -- the next entry down
+    pub entry-inside : j - 1 < length load
+    entry-inside = omega (arith, h .upto)
+
+    module _ (at : ℕ) (place : at + 1 ≡ getD load (j - 1) 0) where
+      pub count-inside : at < length times
+      count-inside = omega (arith, able .entries (j - 1) entry-inside, h .room)
+
+      pub count-few : getD times at 0 + 1 ≤ 4294967295
+      count-few =
+          let n = getD load (j - 1) 0 in
+          let same : n - 1 ≡ at = omega arith in
+          let entry = able .entries (j - 1) entry-inside in
+          let is = rw same at (h .counts n (entry .0) (entry .1)) in
+          omega (
+            arith,
+            is,
+            rw same at (able .few (j - 1) entry-inside),
+            filter-most (eqb n) (drop j load),
+            length-drop j load,
+          )
+
+      pub counting-more : Counting load before (j - 1) (set times at (getD times at 0 + 1))
+      counting-more =
+          let split : drop (j - 1) load ≡ getD load (j - 1) 0 ∷ drop j load = drop-back load j 0 more (h .upto) in
+          record {
+            upto = omega (arith, h .upto);
+            room = length-set times at (getD times at 0 + 1) ∙ h .room;
+            counts = λ n from upTo.
+                rw split (count-more n (getD load (j - 1) 0) at (getD before (n - 1) 0) (drop j load) times (count-inside) place from (h .counts n from upTo));
+          }
+
+  pub counting-all : {times : List ℕ} → Counting load before j times → j ≤ 0 → Counted load before times
+  counting-all h end = let all : j ≡ 0 = omega arith in record { counts = rw all at (h .counts) }
+
+-- ---- the loads of the stacks, from the last to the first
 module _ {items : ℕ} where
   pub tally-none : {times : List ℕ} {size s : ℕ} (p : List Stack) → items ≤ size → times ≡ replicate size 0 → s ≡ length p → Tally items (drop s p) times
   unfolding timesLoaded sum
@@ -83,30 +107,26 @@ module _ {items : ℕ} where
       let room : items ≤ length times = rw e (simp length-replicate h) in
       rw (el, drop-length p) record { room = room; counts = λ n from upTo. rw e (getD-replicate size (n - 1) 0 0 (omega arith)) }
 
-  module _ (s : Stack) (p : List Stack) where
-    -- all items of the stack are left to count, and none is
-    pub load-start : {j : ℕ} {times : List ℕ} → j ≡ length (s .load) → Tally items p times → Tally items (upper j s ∷ p) times
-    unfolding timesLoaded sum filter
-    load-start e h =
-        rw (e, drop-length (s .load)) record { room = h .room; counts = λ n from upTo. omega (arith, h .counts n from upTo) }
+  -- one stack more
+  pub tally-more : {s : ℕ} (p : List Stack) {load before after : List ℕ} → s < length p → Tally items (drop (s + 1) p) before → length after ≡ length before
+      → load ≡ stackAt p s .load → Counted load before after → Tally items (drop s p) after
+  unfolding timesLoaded sum
+  tally-more {s} p k h same e counted =
+      rw (drop-next p s noStack k) record {
+        room = omega (arith, h .room);
+        counts = λ n from upTo. rw (← e, ← h .counts n from upTo) (counted .counts n from (omega (arith, h .room)));
+      }
 
-    pub load-more : (at : ℕ) {j n : ℕ} {times : List ℕ} → Tally items (upper j s ∷ p) times → 0 < j → j ≤ length (s .load)
-        → n ≡ getD (s .load) (j - 1) 0 → n ≤ items → at + 1 ≡ n → Tally items (upper (j - 1) s ∷ p) (set times at (getD times at 0 + 1))
-    unfolding timesLoaded sum
-    load-more at {j} {n} {times} h k b en top place =
-        let inside : at < length times = omega (arith, h .room) in
-        let split : drop (j - 1) (s .load) ≡ n ∷ drop j (s .load) = rw en (drop-back (s .load) j 0 k b) in
-        record {
-          room = rw (length-set times at (getD times at 0 + 1)) (h .room);
-          counts = λ i from upTo. rw split (count-more i n at (timesLoaded p i) (drop j (s .load)) times inside place from (h .counts i from upTo));
-        }
-
-  -- the whole load of a stack
-  pub load-end : (p : List Stack) (s j : ℕ) {times : List ℕ} → s < length p → j ≤ 0 → Tally items (upper j (stackAt p s) ∷ drop (s + 1) p) times
-      → Tally items (drop s p) times
-  load-end p s j k e h =
-      let none : j ≡ 0 = omega arith in
-      rw (drop-next p s noStack k) (rw none at h)
+-- in a filled table there are at most 65,536 load entries, so no count is higher
+pub countable : {m : Limits} {t times load : List ℕ} (s : ℕ) → Filled m t → LoadInRange (instanceIn m t) load
+    → Tally (length (instanceIn m t .items)) (drop s (stacksIn m t)) times → Countable load times
+countable {m} {t} {times} {load} s h range tally = record {
+  entries = λ j inside. let n = range .entries j inside in (n .0, omega (arith, n .1, tally .room));
+  few = λ j inside.
+      let n = range .entries j inside in
+      let later = drop s (stacksIn m t) in
+      omega (arith, tally .counts _ (n .0) (n .1), times-most (getD load j 0) later, entries-most s (stacksIn m t), few-entries h, range .few);
+}
 
 -- ---- the lowest item that is not loaded once
 -- the place of item n, by the word of its count

@@ -1,22 +1,33 @@
 // The item rules 9 to 14, and the stack and placement rules whose test looks at one stack alone: 15, 16, 18 to 22.
 ghost use mathlib.Core.Path.{_≡_};
+ghost use mathlib.Core.Logic.{_↔_};
 ghost use mathlib.Core.Bool.{true, not, cond};
 ghost use mathlib.Core.List.{[], _∷_};
 ghost use Prim.Native.Nat.{_+_, _*_, _≤_, _<_};
 ghost use lib.Dec.{leb, eqb};
-ghost use lib.ListN.{length, getD, drop};
+ghost use lib.ListN.{length, getD};
 ghost use Rattle.meaning.specs.Model.{item};
 ghost use Rattle.meaning.specs.Measures.{bottom};
 ghost use Rattle.meaning.specs.Table.{instanceIn, stacksIn};
-ghost use Rattle.meaning.specs.Rules.{notOnce, plantMatches, productCarried, supplierVisited, arrivesInWindow, docksServed, stackable, orientationKept};
+ghost use Rattle.meaning.specs.Rules.{itemPlaces, notOnce, plantMatches, productCarried, supplierVisited, arrivesInWindow, docksServed};
+ghost use Rattle.meaning.specs.Rules.{stackable, orientationKept};
 ghost use Rattle.table.specs.Filled.{Filled, stackAt, ItemNumber};
 ghost use Rattle.search.specs.Lowest.{lowestIn};
+ghost use Rattle.rules.specs.LoadingRules.{itemTest, stackRulePlaces, ruleCount, ruleAt};
 ghost use Rattle.visits.specs.Visits.{visitAt, HoldsRows};
-ghost use Rattle.stackrules.specs.StackRules.{itemTest, stackRulePlaces, ItemKept, LoadKept, StacksKept, Tally};
+ghost use Rattle.stackrules.specs.StackRules.{everyItemTest, itemAsked, StacksKept, foundOnStacks, noBreach, soonerOf, FirstOnStacks};
+ghost use Rattle.stackrules.specs.StackRules.{Countable, Counted, Tally};
 use meaning::Limits;
+use meaning::Place;
+use rules::ItemRule;
+use rules::RULES;
+use rules::Rule;
+use rules::StackRule;
+use rules::rule_at;
 use search::Found;
 use search::is_nothing;
 use search::lower_of;
+use search::lower_place;
 use search::place_if;
 use table::clear;
 use table::fields::IDE;
@@ -44,12 +55,13 @@ use table::fields::TW;
 use table::is_listed;
 use table::item_count;
 use table::item_field;
+use table::load;
 use table::load_count;
-use table::load_entry;
 use table::products;
 use table::stack_count;
 use table::stack_field;
 use table::stack_truck;
+use table::truck_field;
 use views::bottom_field;
 use views::load_sum;
 use views::plant_dock_order;
@@ -72,17 +84,15 @@ fn count_index(n: u32) -> usize
     (n as usize) - 1
 }
 
-// Counts the items of one stack, beside those of the stacks behind it.
-fn count_load(t: &[u32], limits: Limits, s: usize, times: &mut [u32])
-    requires { ⌜ Filled limits (now t) × (s < length (stacksIn limits (now t)))
-        × Tally (length (instanceIn limits (now t) .items)) (drop (s + 1) (stacksIn limits (now t))) (now times) ⌝ }
-    ensures { λ _. ⌜ Tally (length (instanceIn limits (now (t .entry)) .items)) (drop s (stacksIn limits (now (t .entry))))
-        (now (times .exit)) ⌝ }
+// Counts the items of a load, besides what was counted before.
+fn count_load(items: &[u32], times: &mut [u32])
+    requires { ⌜ Countable (now items) (now times) ⌝ }
+    ensures { λ _. ⌜ Counted (now (items .entry)) (now (times .entry)) (now (times .exit)) ⌝ }
 {
-    let mut j = load_count(t, limits, s);
+    let mut j = items.len();
     while 0 < j {
         j -= 1;
-        let at = count_index(load_entry(t, limits, s, j));
+        let at = count_index(items[j]);
         times[at] = times[at] + 1;
     }
 }
@@ -96,7 +106,7 @@ fn count_items(t: &[u32], limits: Limits, times: &mut [u32])
     let mut s = stack_count(t, limits);
     while 0 < s {
         s -= 1;
-        count_load(t, limits, s, times);
+        count_load(load(t, limits, s), times);
     }
 }
 
@@ -117,17 +127,6 @@ pub fn lowest_not_once(t: &[u32], limits: Limits, times: &mut [u32]) -> Found
 }
 
 // ---- the rules on each item of a stack: 10 to 15 and 18
-
-// The rules on an item of a stack.
-pub enum ItemRule {
-    Plant, // 10
-    Product, // 11
-    Supplier, // 12
-    Day, // 13
-    Dock, // 14
-    Mixed, // 15
-    Turned, // 18
-}
 
 // 10 plant, I2: the truck goes to the item's plant.
 fn plant_matches(t: &[u32], limits: Limits, s: usize, n: u32) -> bool
@@ -224,19 +223,52 @@ fn item_kept(rule: ItemRule, t: &[u32], limits: Limits, s: usize, n: u32) -> boo
     }
 }
 
-// The lowest item of a stack that breaks a rule.
-fn lowest_item(rule: ItemRule, t: &[u32], limits: Limits, s: usize) -> Found
+// Whether an item of a stack keeps every rule on items.
+fn item_keeps_rules(t: &[u32], limits: Limits, s: usize, n: u32) -> bool
+    requires { ⌜ Filled limits (now t) × (s < length (stacksIn limits (now t))) × ItemNumber (instanceIn limits (now t)) n ⌝ }
+    ensures { λ r. ⌜ r ≡ everyItemTest (instanceIn limits (now (t .entry))) (stackAt (stacksIn limits (now (t .entry))) s)
+        (item (instanceIn limits (now (t .entry))) n) ⌝ }
+{
+    (((((plant_matches(t, limits, s, n) & product_carried(t, limits, s, n))
+        & supplier_visited(t, limits, s, n))
+        & arrives_in_window(t, limits, s, n))
+        & docks_served(t, limits, s, n))
+        & is_stackable(t, limits, s, n))
+        & orientation_kept(t, limits, s, n)
+}
+
+// What is asked of an item: one rule, or every rule on items at once.
+enum ItemTest {
+    One(ItemRule),
+    Every,
+}
+
+// Whether an item of a stack keeps what is asked of it.
+fn item_passes(test: ItemTest, t: &[u32], limits: Limits, s: usize, n: u32) -> bool
+    requires { ⌜ Filled limits (now t) × (s < length (stacksIn limits (now t))) × ItemNumber (instanceIn limits (now t)) n ⌝ }
+    ensures { λ r. ⌜ r ≡ itemAsked test (instanceIn limits (now (t .entry))) (stackAt (stacksIn limits (now (t .entry))) s)
+        (item (instanceIn limits (now (t .entry))) n) ⌝ }
+{
+    match test {
+        ItemTest::One(rule) => item_kept(rule, t, limits, s, n),
+        ItemTest::Every => item_keeps_rules(t, limits, s, n),
+    }
+}
+
+// The lowest item of a stack that does not keep what is asked of it.
+fn lowest_item(test: ItemTest, t: &[u32], limits: Limits, s: usize) -> Found
     requires { ⌜ Filled limits (now t) × (s < length (stacksIn limits (now t))) ⌝ }
-    ensures { λ r. ⌜ r ≡ lowestIn (stackRulePlaces (StackRule.EachItem rule) (instanceIn limits (now (t .entry)))
+    ensures { λ r. ⌜ r ≡ lowestIn (itemPlaces (itemAsked test) (instanceIn limits (now (t .entry)))
         ((stackAt (stacksIn limits (now (t .entry))) s) ∷ [])) ⌝ }
 {
     let number = stack_field(t, limits, s, NUMBER);
+    let items = load(t, limits, s);
     let mut found = Found::Nothing;
-    let mut j = load_count(t, limits, s);
+    let mut j = items.len();
     while 0 < j {
         j -= 1;
-        let n = load_entry(t, limits, s, j);
-        let kept = item_kept(rule, t, limits, s, n);
+        let n = items[j];
+        let kept = item_passes(test, t, limits, s, n);
         found = lower_of(place_if(!kept, number, n, 0), found);
     }
     found
@@ -245,33 +277,18 @@ fn lowest_item(rule: ItemRule, t: &[u32], limits: Limits, s: usize) -> Found
 // ---- the rules on each stack: those on its items, 16 and 19 to 22. Each function answers where the stack that is visited at place k breaks
 // its rule
 
-// The rules on a stack.
-pub enum StackRule {
-    EachItem(ItemRule),
-    Docks, // 16
-    TopHeavy, // 19
-    TooMany, // 20
-    Dense, // 21
-    Outside, // 22
-}
-
 // 16 docks, S2 and S3: one plant dock; where the truck's flag is set also two, if they are consecutive.
 fn docks_place(t: &[u32], limits: Limits, rows: &[u32], k: usize) -> Found
     requires { ⌜ HoldsRows limits (now t) (now rows) × (k < length (stacksIn limits (now t))) ⌝ }
     ensures { λ r. ⌜ r ≡ lowestIn (stackRulePlaces StackRule.Docks (instanceIn limits (now (t .entry)))
         (visitAt (stacksIn limits (now (t .entry))) k ∷ [])) ⌝ }
 {
-    let count = row_word(t, limits, rows, k, row::PLANT_DOCKS);
-    let two_docks = stack_truck_field(t, limits, stack_at(t, limits, rows, k), TF) == 1;
-    let after = row_word(t, limits, rows, k, row::LOWEST) + 1;
-    let consecutive = (count == 2) & (after == row_word(t, limits, rows, k, row::HIGHEST));
+    let count = row_word(rows, k, row::PLANT_DOCKS);
+    let two_docks = truck_field(t, limits, row_word(rows, k, row::TRUCK), TF) == 1;
+    let after = row_word(rows, k, row::LOWEST) + 1;
+    let consecutive = (count == 2) & (after == row_word(rows, k, row::HIGHEST));
     let allowed = (count <= 1) | (two_docks & consecutive);
-    place_if(
-        !allowed,
-        row_word(t, limits, rows, k, row::NUMBER),
-        count,
-        0,
-    )
+    place_if(!allowed, row_word(rows, k, row::NUMBER), count, 0)
 }
 
 // 19 top heavy, S5: the weight above the bottom item is within the truck's limit.
@@ -280,10 +297,9 @@ fn top_heavy_place(t: &[u32], limits: Limits, rows: &[u32], k: usize) -> Found
     ensures { λ r. ⌜ r ≡ lowestIn (stackRulePlaces StackRule.TopHeavy (instanceIn limits (now (t .entry)))
         (visitAt (stacksIn limits (now (t .entry))) k ∷ [])) ⌝ }
 {
-    let s = stack_at(t, limits, rows, k);
-    let above = load_sum(t, limits, s, 1, IM);
-    let within = above <= stack_truck_field(t, limits, s, TOP_LIMIT);
-    place_if(!within, row_word(t, limits, rows, k, row::NUMBER), above, 0)
+    let above = load_sum(t, limits, stack_at(rows, k), 1, IM);
+    let within = above <= truck_field(t, limits, row_word(rows, k, row::TRUCK), TOP_LIMIT);
+    place_if(!within, row_word(rows, k, row::NUMBER), above, 0)
 }
 
 // 20 too many, S6: no more items than the maximal stackability.
@@ -292,10 +308,10 @@ fn too_many_place(t: &[u32], limits: Limits, rows: &[u32], k: usize) -> Found
     ensures { λ r. ⌜ r ≡ lowestIn (stackRulePlaces StackRule.TooMany (instanceIn limits (now (t .entry)))
         (visitAt (stacksIn limits (now (t .entry))) k ∷ [])) ⌝ }
 {
-    let s = stack_at(t, limits, rows, k);
+    let s = stack_at(rows, k);
     let count = load_count(t, limits, s) as u32;
     let within = count <= bottom_field(t, limits, s, ISM);
-    place_if(!within, row_word(t, limits, rows, k, row::NUMBER), count, 0)
+    place_if(!within, row_word(rows, k, row::NUMBER), count, 0)
 }
 
 // Whether a stack of this weight in kilograms keeps the density limit, in kilograms per square metre, on this ground in square millimetres.
@@ -312,12 +328,16 @@ fn dense_place(t: &[u32], limits: Limits, rows: &[u32], k: usize) -> Found
     ensures { λ r. ⌜ r ≡ lowestIn (stackRulePlaces StackRule.Dense (instanceIn limits (now (t .entry)))
         (visitAt (stacksIn limits (now (t .entry))) k ∷ [])) ⌝ }
 {
-    let s = stack_at(t, limits, rows, k);
-    let weight = row_word(t, limits, rows, k, row::WEIGHT);
-    let length = bottom_field(t, limits, s, IL);
-    let width = bottom_field(t, limits, s, IW);
-    let kept = density_kept(weight, stack_truck_field(t, limits, s, TEM), length, width);
-    place_if(!kept, row_word(t, limits, rows, k, row::NUMBER), weight, 0)
+    let s = stack_at(rows, k);
+    let weight = row_word(rows, k, row::WEIGHT);
+    let limit = truck_field(t, limits, row_word(rows, k, row::TRUCK), TEM);
+    let kept = density_kept(
+        weight,
+        limit,
+        bottom_field(t, limits, s, IL),
+        bottom_field(t, limits, s, IW),
+    );
+    place_if(!kept, row_word(rows, k, row::NUMBER), weight, 0)
 }
 
 // The lowest dimension that does not fit: 1 length, 2 width, 3 height. The two tests say whether length and width fit.
@@ -339,29 +359,29 @@ fn outside_place(t: &[u32], limits: Limits, rows: &[u32], k: usize) -> Found
     ensures { λ r. ⌜ r ≡ lowestIn (stackRulePlaces StackRule.Outside (instanceIn limits (now (t .entry)))
         (visitAt (stacksIn limits (now (t .entry))) k ∷ [])) ⌝ }
 {
-    let s = stack_at(t, limits, rows, k);
-    let ground = footprint_at(t, limits, rows, k);
-    let size = read_size(t, limits, s);
-    let within_length = ground.xe <= stack_truck_field(t, limits, s, TL);
-    let within_width = ground.ye <= stack_truck_field(t, limits, s, TW);
-    let within_height = size.height <= stack_truck_field(t, limits, s, TH);
+    let truck = row_word(rows, k, row::TRUCK);
+    let ground = footprint_at(rows, k);
+    let size = read_size(t, limits, stack_at(rows, k));
+    let within_length = ground.xe <= truck_field(t, limits, truck, TL);
+    let within_width = ground.ye <= truck_field(t, limits, truck, TW);
+    let within_height = size.height <= truck_field(t, limits, truck, TH);
     let inside = (within_length & within_width) & within_height;
     place_if(
         !inside,
-        row_word(t, limits, rows, k, row::NUMBER),
+        row_word(rows, k, row::NUMBER),
         exceeded_side(within_length, within_width),
         0,
     )
 }
 
-// Where the stack that is visited at place k breaks a rule.
+// Where the stack that is visited at place k breaks a rule on stacks.
 fn stack_place(rule: StackRule, t: &[u32], limits: Limits, rows: &[u32], k: usize) -> Found
     requires { ⌜ HoldsRows limits (now t) (now rows) × (k < length (stacksIn limits (now t))) ⌝ }
     ensures { λ r. ⌜ r ≡ lowestIn (stackRulePlaces rule (instanceIn limits (now (t .entry)))
         (visitAt (stacksIn limits (now (t .entry))) k ∷ [])) ⌝ }
 {
     match rule {
-        StackRule::EachItem(each) => lowest_item(each, t, limits, stack_at(t, limits, rows, k)),
+        StackRule::EachItem(each) => lowest_item(ItemTest::One(each), t, limits, stack_at(rows, k)),
         StackRule::Docks => docks_place(t, limits, rows, k),
         StackRule::TopHeavy => top_heavy_place(t, limits, rows, k),
         StackRule::TooMany => too_many_place(t, limits, rows, k),
@@ -370,77 +390,104 @@ fn stack_place(rule: StackRule, t: &[u32], limits: Limits, rows: &[u32], k: usiz
     }
 }
 
-// The lowest place where a rule on stacks is broken.
-pub fn lowest_stack(rule: StackRule, t: &[u32], limits: Limits, rows: &[u32]) -> Found
-    requires { ⌜ HoldsRows limits (now t) (now rows) ⌝ }
-    ensures { λ r. ⌜ r ≡ lowestIn (stackRulePlaces rule (instanceIn limits (now (t .entry))) (stacksIn limits (now (t .entry)))) ⌝ }
-{
-    let mut found = Found::Nothing;
-    let mut k = stack_count(t, limits);
-    while 0 < k {
-        k -= 1;
-        found = lower_of(stack_place(rule, t, limits, rows, k), found);
-    }
-    found
-}
+// ---- the first rule on stacks that is broken
 
-// ---- all rules on stacks at once. Most plans keep them, and one walk over the stacks tells so, where the searches above walk once for each
-// rule. That the answer is yes where it could be is not promised, since nothing depends on it
-
-// Whether an item of a stack keeps every rule on items.
-fn item_keeps_rules(t: &[u32], limits: Limits, s: usize, n: u32) -> bool
-    requires { ⌜ Filled limits (now t) × (s < length (stacksIn limits (now t))) × ItemNumber (instanceIn limits (now t)) n ⌝ }
-    ensures { λ r. ⌜ (r ≡ true → ItemKept (instanceIn limits (now (t .entry))) (stackAt (stacksIn limits (now (t .entry))) s)
-        (item (instanceIn limits (now (t .entry))) n)) ⌝ }
-{
-    (((((plant_matches(t, limits, s, n) & product_carried(t, limits, s, n))
-        & supplier_visited(t, limits, s, n))
-        & arrives_in_window(t, limits, s, n))
-        & docks_served(t, limits, s, n))
-        & is_stackable(t, limits, s, n))
-        & orientation_kept(t, limits, s, n)
-}
-
-// Whether all items of a stack keep every rule on items.
-fn load_keeps_rules(t: &[u32], limits: Limits, s: usize) -> bool
-    requires { ⌜ Filled limits (now t) × (s < length (stacksIn limits (now t))) ⌝ }
-    ensures { λ r. ⌜ (r ≡ true → LoadKept (instanceIn limits (now (t .entry))) (stackAt (stacksIn limits (now (t .entry))) s)) ⌝ }
-{
-    let mut j = load_count(t, limits, s);
-    while 0 < j {
-        j -= 1;
-        if !item_keeps_rules(t, limits, s, load_entry(t, limits, s, j)) {
-            return false;
-        }
-    }
-    true
-}
-
-// Whether the stack that is visited at place k keeps every rule on stacks.
+// Whether the stack that is visited at place k keeps every rule on stacks. Most stacks do.
 fn stack_keeps_rules(t: &[u32], limits: Limits, rows: &[u32], k: usize) -> bool
     requires { ⌜ HoldsRows limits (now t) (now rows) × (k < length (stacksIn limits (now t))) ⌝ }
-    ensures { λ r. ⌜ (r ≡ true → StacksKept (instanceIn limits (now (t .entry))) (visitAt (stacksIn limits (now (t .entry))) k ∷ [])) ⌝ }
+    ensures { λ r. ⌜ (r ≡ true) ↔ StacksKept (instanceIn limits (now (t .entry))) (visitAt (stacksIn limits (now (t .entry))) k ∷ []) ⌝ }
 {
     let docks = is_nothing(docks_place(t, limits, rows, k));
     let top = is_nothing(top_heavy_place(t, limits, rows, k));
     let count = is_nothing(too_many_place(t, limits, rows, k));
     let density = is_nothing(dense_place(t, limits, rows, k));
     let ground = is_nothing(outside_place(t, limits, rows, k));
-    let items = load_keeps_rules(t, limits, stack_at(t, limits, rows, k));
+    let items = is_nothing(lowest_item(ItemTest::Every, t, limits, stack_at(rows, k)));
     ((((docks & top) & count) & density) & ground) & items
 }
 
-// Whether all stacks keep every rule on stacks: 10 to 16 and 18 to 22.
-pub fn stacks_keep_rules(t: &[u32], limits: Limits, rows: &[u32]) -> bool
-    requires { ⌜ HoldsRows limits (now t) (now rows) ⌝ }
-    ensures { λ r. ⌜ (r ≡ true → StacksKept (instanceIn limits (now (t .entry))) (stacksIn limits (now (t .entry)))) ⌝ }
+// A broken rule by its rank, and a place where it is broken. Where no rule is, the rank is RULES and the place is zeros.
+pub struct Breach {
+    pub rank: usize,
+    pub place: Place,
+}
+
+// No rule is broken.
+fn no_breach() -> Breach
+    ensures { λ r. ⌜ r ≡ noBreach ⌝ }
 {
+    Breach {
+        rank: RULES,
+        place: Place {
+            first: 0,
+            second: 0,
+            third: 0,
+        },
+    }
+}
+
+// The sooner of two breaches: that of the lower rank, and of one rule the lower place.
+fn sooner(a: Breach, b: Breach) -> Breach
+    ensures { λ r. ⌜ r ≡ soonerOf a b ⌝ }
+{
+    if a.rank < b.rank {
+        return a;
+    }
+    if b.rank < a.rank {
+        return b;
+    }
+    let first = a.place;
+    let second = b.place;
+    Breach {
+        rank: a.rank,
+        place: lower_place(first, second),
+    }
+}
+
+// Where the stack that is visited at place k breaks the rule of a rank, if that is a rule on stacks.
+fn rank_place(rank: usize, t: &[u32], limits: Limits, rows: &[u32], k: usize) -> Found
+    requires { ⌜ HoldsRows limits (now t) (now rows) × (k < length (stacksIn limits (now t))) × (rank < ruleCount) ⌝ }
+    ensures { λ r. ⌜ r ≡ foundOnStacks (ruleAt rank) (instanceIn limits (now (t .entry)))
+        (visitAt (stacksIn limits (now (t .entry))) k ∷ []) ⌝ }
+{
+    let rule = rule_at(rank);
+    match rule {
+        Rule::OfStacks(each) => stack_place(each, t, limits, rows, k),
+        Rule::OfPairs(_) => Found::Nothing,
+        Rule::OfTrucks(_) => Found::Nothing,
+    }
+}
+
+// The first rule on stacks that the stack visited at place k breaks.
+fn stack_breach(t: &[u32], limits: Limits, rows: &[u32], k: usize) -> Breach
+    requires { ⌜ HoldsRows limits (now t) (now rows) × (k < length (stacksIn limits (now t))) ⌝ }
+    ensures { λ r. ⌜ FirstOnStacks (instanceIn limits (now (t .entry))) (visitAt (stacksIn limits (now (t .entry))) k ∷ []) r ⌝ }
+{
+    if stack_keeps_rules(t, limits, rows, k) {
+        return no_breach();
+    }
+    let mut rank = 0;
+    while rank < RULES {
+        let found = rank_place(rank, t, limits, rows, k);
+        match found {
+            Found::At(place) => return Breach { rank, place },
+            Found::Nothing => {}
+        }
+        rank += 1;
+    }
+    no_breach()
+}
+
+// The first rule on stacks that is broken, with its lowest place.
+pub fn first_on_stacks(t: &[u32], limits: Limits, rows: &[u32]) -> Breach
+    requires { ⌜ HoldsRows limits (now t) (now rows) ⌝ }
+    ensures { λ r. ⌜ FirstOnStacks (instanceIn limits (now (t .entry))) (stacksIn limits (now (t .entry))) r ⌝ }
+{
+    let mut first = no_breach();
     let mut k = stack_count(t, limits);
     while 0 < k {
         k -= 1;
-        if !stack_keeps_rules(t, limits, rows, k) {
-            return false;
-        }
+        first = sooner(stack_breach(t, limits, rows, k), first);
     }
-    true
+    first
 }

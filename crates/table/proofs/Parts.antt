@@ -20,18 +20,15 @@ module _ {A : Type 0} where
   length-part at n l h = simp (length-take, length-drop) (omega arith)
 
   -- a part that has few elements though more stand there was asked to have few
-  part-short : (at n most : ℕ) (l : List A) → at + most < length l → length (part at n l) ≤ most → n ≤ most
+  pub part-short : (at n most : ℕ) (l : List A) → at + most < length l → length (part at n l) ≤ most → n ≤ most
   part-short at n most l h few = let k = simp (length-take, length-drop) at few in omega arith
 
-  -- a part of a part
-  part-front : (a b n : ℕ) (l : List A) → a + b ≤ n → part a b (take n l) ≡ part a b l
+  -- a part of the front
+  pub part-front : (a b n : ℕ) (l : List A) → a + b ≤ n → part a b (take n l) ≡ part a b l
   part-front zero b n l h = take-take b n l (omega arith)
   part-front (suc a) b zero l h = absurd (omega arith)
   part-front (suc a) b (suc n) [] h = refl
   part-front (suc a) b (suc n) (x ∷ l) h = part-front a b n l (omega arith)
-
-  pub part-part : (a b at n : ℕ) (l : List A) → a + b ≤ n → part a b (part at n l) ≡ part (at + a) b l
-  part-part a b at n l h = part-front a b n (drop at l) h ∙ ap (take b) (drop-drop a at l)
 
   -- ---- rows
   pub length-chunks : (w n : ℕ) (l : List A) → length (chunks w n l) ≡ n
@@ -63,13 +60,3 @@ module _ {A B : Type 0} (f : List A → B) (w n : ℕ) where
 -- in a row of w numbers: its count is at place `at` of the row
 abbrev pub behind : ℕ → List ℕ → List ℕ
 behind at row = part (at + 1) (getD row at 0) row
-
--- a short one is, in the whole list, a list behind the same count
-pub behind-whole : (at most base w : ℕ) (t : List ℕ) → at + 1 + most < w → base + w ≤ length t → length (behind at (part base w t)) ≤ most
-    → (getD t (base + at) 0 ≤ most) × (behind at (part base w t) ≡ behind (base + at) t)
-behind-whole at most base w t h room few =
-    let row = part base w t in
-    let e = part-at base w at t 0 (omega arith) in
-    let count = part-short (at + 1) (getD row at 0) most row (omega (arith, length-part base w t room)) few in
-    let place : base + (at + 1) ≡ base + at + 1 = omega arith in
-    (omega arith, part-part (at + 1) (getD row at 0) base w t (omega arith) ∙ rw (e, place))

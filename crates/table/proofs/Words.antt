@@ -1,16 +1,15 @@
--- Which number of the model a word of the table is.
-use mathlib.Core.Path.{_≡_, refl, ap, ap₂, _∙_}
+-- Which words of the table an item, a truck and a stack of the model are.
+use mathlib.Core.Path.{_≡_, refl, ap₂, _∙_}
 use mathlib.Core.List.{List, [], _∷_}
 use Prim.Native.Nat.{ℕ, zero, suc, _+_, _-_, _*_, _≤_, _<_}
 use native.Mathlib.Omega.{arith}
 use lib.ListN.{length, getD, take, drop}
-use lib.Seq.{getD-take, drop-drop}
 use Rattle.meaning.specs.declared.Limits.{Limits}
 use Rattle.meaning.specs.Lists.{chunks}
 use Rattle.meaning.specs.Limits.{itemsAt, trucksAt, stacksAt, loadsAt}
 use Rattle.meaning.specs.Model.{item, noTruck, truckNumbered}
-use Rattle.meaning.specs.Table.{cutLists, truckIn, instanceIn, stackIn, stacksIn, truckPlace, stackPlace, loadFirst, loadCount}
-use Rattle.table.specs.Filled.{noStack, stackAt, ItemNumber, TruckNumber}
+use Rattle.meaning.specs.Table.{cutLists, truckIn, instanceIn, stackIn, stacksIn, truckPlace, stackPlace}
+use Rattle.table.specs.Filled.{noStack, stackAt, ItemNumber, TruckNumber, itemPlace}
 use Rattle.table.proofs.Parts.{part, part-at, length-part, length-chunks, chunk-at, length-made, made-at}
 
 -- ---- the docks of a truck's row, which stand in rows of eight words
@@ -46,35 +45,14 @@ module _ (m : Limits) (t : List ℕ) where
   stacks-counted = length-made (stackIn (drop (loadsAt m) t)) 8 (getD t 5 0) (drop (stacksAt m) t)
 
   -- ---- the rows
-  item-row : (n : ℕ) → ItemNumber (instanceIn m t) n → item (instanceIn m t) n ≡ part (16 * n) 16 t
+  pub item-row : (n : ℕ) → ItemNumber (instanceIn m t) n → item (instanceIn m t) n ≡ part (itemPlace n) 16 t
   unfolding instanceIn
-  item-row n h =
-      let e : itemsAt + 16 * (n - 1) ≡ 16 * n = omega (arith, h .0) in
-      chunk-at 16 (getD t 3 0) (n - 1) itemsAt t (omega (arith, h .0, h .1, items-counted)) ∙ ap (λ (at : ℕ). part at 16 t) e
+  item-row n h = chunk-at 16 (getD t 3 0) (n - 1) itemsAt t (omega (arith, h .0, h .1, items-counted))
 
   pub truck-row : (n : ℕ) → TruckNumber (instanceIn m t) n → truckNumbered (instanceIn m t) n ≡ truckIn (part (truckPlace m n) 160 t)
   unfolding instanceIn
   truck-row n h = made-at truckIn 160 (getD t 4 0) (n - 1) (trucksAt m) t noTruck (omega (arith, h .0, h .1, trucks-counted))
 
-  stack-row : (s : ℕ) → s < length (stacksIn m t) → stackAt (stacksIn m t) s ≡ stackIn (drop (loadsAt m) t) (part (stackPlace m s) 8 t)
+  pub stack-row : (s : ℕ) → s < length (stacksIn m t) → stackAt (stacksIn m t) s ≡ stackIn (drop (loadsAt m) t) (part (stackPlace m s) 8 t)
   unfolding stacksIn
   stack-row s h = made-at (stackIn (drop (loadsAt m) t)) 8 (getD t 5 0) s (stacksAt m) t noStack (omega (arith, h, stacks-counted))
-
-  -- ---- the fields
-  pub item-word : (n f : ℕ) → ItemNumber (instanceIn m t) n → f < 16 → getD (item (instanceIn m t) n) f 0 ≡ getD t (16 * n + f) 0
-  item-word n f h l = rw (item-row n h) (part-at (16 * n) 16 f t 0 l)
-
-  pub truck-word : (n f : ℕ) → TruckNumber (instanceIn m t) n → f < 20 → getD (truckNumbered (instanceIn m t) n .fields) f 0 ≡ getD t (truckPlace m n + f) 0
-  unfolding truckIn
-  truck-word n f h l = rw (truck-row n h) (getD-take 20 (part (truckPlace m n) 160 t) f 0 l ∙ part-at (truckPlace m n) 160 f t 0 (omega arith))
-
-  pub stack-word : (s f : ℕ) → s < length (stacksIn m t) → f < 6 → getD (stackAt (stacksIn m t) s .fields) f 0 ≡ getD t (stackPlace m s + f) 0
-  unfolding stackIn
-  stack-word s f h l = rw (stack-row s h) (getD-take 6 (part (stackPlace m s) 8 t) f 0 l ∙ part-at (stackPlace m s) 8 f t 0 (omega arith))
-
-  -- ---- the load
-  pub load-words : (s : ℕ) → s < length (stacksIn m t) → stackAt (stacksIn m t) s .load ≡ part (loadsAt m + loadFirst m t s) (loadCount m t s) t
-  unfolding stackIn
-  load-words s h =
-      rw (stack-row s h, part-at (stackPlace m s) 8 7 t 0 (omega arith), part-at (stackPlace m s) 8 6 t 0 (omega arith))
-      (ap (take (loadCount m t s)) (drop-drop (loadFirst m t s) (loadsAt m) t))

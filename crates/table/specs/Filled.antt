@@ -1,9 +1,9 @@
 -- What every reader of the working table may lean on, and how large what it reads can be.
 use mathlib.Core.List.{List, [], _∷_}
-use Prim.Native.Nat.{ℕ, _+_, _-_, _≤_, _<_}
+use Prim.Native.Nat.{ℕ, _+_, _-_, _*_, _≤_, _<_}
 use lib.ListN.{length, getD}
 use Rattle.meaning.specs.declared.Limits.{Limits}
-use Rattle.meaning.specs.Limits.{named}
+use Rattle.meaning.specs.Limits.{itemsAt, named}
 use Rattle.meaning.specs.Model.{Instance, Stack, Truck}
 use Rattle.meaning.specs.Table.{instanceIn, stacksIn, dockCount, loadFirst, loadCount}
 use Rattle.meaning.specs.Meets.{FilesMeet}
@@ -22,6 +22,11 @@ pub record Bounded (m : Limits) : Type 0 where
   pub bytes : m .bytes ≤ 16777216
   pub loads : m .loads ≤ 65536
 
+-- the table has room for the named words
+pub record Room (m : Limits) (t : List ℕ) : Type 0 where
+  pub bounded : Bounded m
+  pub room : named m ≤ length t
+
 -- the table has room for the named words and holds a model in range, whose dock lists stand within their rows and whose loads stand
 -- within the words of the loads
 pub record Filled (m : Limits) (t : List ℕ) : Type 0 where
@@ -30,6 +35,16 @@ pub record Filled (m : Limits) (t : List ℕ) : Type 0 where
   pub range : FilesMeet m (instanceIn m t) (stacksIn m t)
   pub docks : (n k : ℕ) → TruckNumber (instanceIn m t) n → k < 8 → dockCount m t n k ≤ 8
   pub loads : (s : ℕ) → s < length (stacksIn m t) → loadFirst m t s + loadCount m t s ≤ m .loads
+
+-- a load of items: 1 to 64 entries, each the number of one
+pub record LoadOfItems (i : Instance) (load : List ℕ) : Type 0 where
+  pub some : 1 ≤ length load
+  pub few : length load ≤ 64
+  pub entries : (j : ℕ) → j < length load → ItemNumber i (getD load j 0)
+
+-- the first word of an item
+abbrev pub itemPlace : ℕ → ℕ
+itemPlace n = itemsAt + 16 * (n - 1)
 
 -- the stack of a place where there is none
 abbrev pub noStack : Stack

@@ -1,12 +1,13 @@
 // The working table: where its parts begin, clearing, and the accessors. No other code knows where a word stands in a filled table.
 ghost use mathlib.Core.Path.{_≡_};
-ghost use Prim.Native.Nat.{_+_, _≤_, _<_};
+ghost use Prim.Native.Nat.{_+_, _*_, _≤_, _<_};
 ghost use lib.ListN.{length, getD, take, drop, replicate};
 ghost use Rattle.meaning.specs.Lists.{listed, orderIn};
 ghost use Rattle.meaning.specs.Limits.{small, trucksAt, stacksAt, loadsAt, named};
 ghost use Rattle.meaning.specs.Model.{item, truckNumbered, truck};
-ghost use Rattle.meaning.specs.Table.{instanceIn, stacksIn, truckPlace, loadFirst};
-ghost use Rattle.table.specs.Filled.{Bounded, Filled, stackAt, ItemNumber, TruckNumber, docksAtOrder, itemMost, truckMost, stackMost};
+ghost use Rattle.meaning.specs.Table.{instanceIn, stacksIn, truckPlace, stackPlace};
+ghost use Rattle.table.specs.Filled.{Bounded, Room, Filled, LoadOfItems, stackAt, ItemNumber, TruckNumber, docksAtOrder, itemPlace};
+ghost use Rattle.table.specs.Filled.{itemMost, truckMost, stackMost};
 use fields::TRUCK;
 use layout::DOCK_COUNTS;
 use layout::DOCKS;
@@ -89,8 +90,7 @@ pub fn clear(words: &mut [u32])
     }
 }
 
-// ---- the accessors of a filled table. They take the limits and the table also where the code needs one of them only, for their promises
-// speak of the model that both give
+// ---- the words of the table, part by part. These need room for the named words and no more
 
 // A word as a count or a place.
 fn as_index(word: u32) -> usize
@@ -98,6 +98,70 @@ fn as_index(word: u32) -> usize
 {
     word as usize
 }
+
+// So many words from a place on.
+fn words_from<'a>(words: &'a [u32], first: usize, count: usize) -> &'a [u32]
+    requires { ⌜ first + count ≤ length (now words) ⌝ }
+    ensures { λ r. ⌜ (now r ≡ take count (drop first (now (words .entry)))) × (length (now r) ≡ count) ⌝ }
+{
+    let end = first + count;
+    &words[first..end]
+}
+
+// The words of the head.
+pub fn head_words<'a>(t: &'a [u32], limits: Limits) -> &'a [u32]
+    requires { ⌜ Room limits (now t) ⌝ }
+    ensures { λ r. ⌜ (now r ≡ take 16 (now (t .entry))) × (length (now r) ≡ 16) ⌝ }
+{
+    words_from(t, 0, HEAD_WORDS)
+}
+
+// The words of an item.
+pub fn item_words<'a>(t: &'a [u32], limits: Limits, n: u32) -> &'a [u32]
+    requires { ⌜ Room limits (now t) × (1 ≤ n) × (n ≤ limits .items) ⌝ }
+    ensures { λ r. ⌜ (now r ≡ take 16 (drop (itemPlace n) (now (t .entry)))) × (length (now r) ≡ 16) ⌝ }
+{
+    words_from(t, HEAD_WORDS + ITEM_WORDS * (as_index(n) - 1), ITEM_WORDS)
+}
+
+// The words of a truck.
+pub fn truck_words<'a>(t: &'a [u32], limits: Limits, n: u32) -> &'a [u32]
+    requires { ⌜ Room limits (now t) × (1 ≤ n) × (n ≤ limits .trucks) ⌝ }
+    ensures { λ r. ⌜ (now r ≡ take 160 (drop (truckPlace limits n) (now (t .entry)))) × (length (now r) ≡ 160) ⌝ }
+{
+    words_from(
+        t,
+        trucks_at(limits) + TRUCK_WORDS * (as_index(n) - 1),
+        TRUCK_WORDS,
+    )
+}
+
+// The words of a stack, which goes by its place in the file, from 0.
+pub fn stack_words<'a>(t: &'a [u32], limits: Limits, s: usize) -> &'a [u32]
+    requires { ⌜ Room limits (now t) × (s < limits .stacks) ⌝ }
+    ensures { λ r. ⌜ (now r ≡ take 8 (drop (stackPlace limits s) (now (t .entry)))) × (length (now r) ≡ 8) ⌝ }
+{
+    words_from(t, stacks_at(limits) + STACK_WORDS * s, STACK_WORDS)
+}
+
+// The words of all loads.
+pub fn load_words<'a>(t: &'a [u32], limits: Limits) -> &'a [u32]
+    requires { ⌜ Room limits (now t) ⌝ }
+    ensures { λ r. ⌜ (now r ≡ take (limits .loads) (drop (loadsAt limits) (now (t .entry)))) × (length (now r) ≡ limits .loads) ⌝ }
+{
+    words_from(t, loads_at(limits), limits.loads)
+}
+
+// A list that stands behind its count.
+fn counted<'a>(words: &'a [u32], at: usize) -> &'a [u32]
+    requires { ⌜ (at < length (now words)) × (at + 1 + getD (now words) at 0 ≤ length (now words)) ⌝ }
+    ensures { λ r. ⌜ now r ≡ take (getD (now (words .entry)) at 0) (drop (at + 1) (now (words .entry))) ⌝ }
+{
+    words_from(words, at + 1, as_index(words[at]))
+}
+
+// ---- the accessors of a filled table. They take the limits and the table also where the code needs one of them only, for their promises
+// speak of the model that both give
 
 // The coefficient of the transport cost.
 pub fn transport_coefficient(t: &[u32], limits: Limits) -> u32
@@ -152,16 +216,8 @@ pub fn item_field(t: &[u32], limits: Limits, n: u32, field: usize) -> u32
     requires { ⌜ Filled limits (now t) × ItemNumber (instanceIn limits (now t)) n × (field < 16) ⌝ }
     ensures { λ r. ⌜ (r ≡ getD (item (instanceIn limits (now (t .entry))) n) field 0) × (r ≤ itemMost field) ⌝ }
 {
-    let row = HEAD_WORDS + ITEM_WORDS * (as_index(n) - 1);
-    t[row + field]
-}
-
-// The first word of a truck.
-fn truck_at(t: &[u32], limits: Limits, n: u32) -> usize
-    requires { ⌜ Filled limits (now t) × TruckNumber (instanceIn limits (now t)) n ⌝ }
-    ensures { λ r. ⌜ (r ≡ truckPlace limits n) × (r + 160 ≤ length (now (t .entry))) ⌝ }
-{
-    trucks_at(limits) + TRUCK_WORDS * (as_index(n) - 1)
+    let words = item_words(t, limits, n);
+    words[field]
 }
 
 // A field of a truck's line.
@@ -169,18 +225,8 @@ pub fn truck_field(t: &[u32], limits: Limits, n: u32, field: usize) -> u32
     requires { ⌜ Filled limits (now t) × TruckNumber (instanceIn limits (now t)) n × (field < 20) ⌝ }
     ensures { λ r. ⌜ (r ≡ getD (truckNumbered (instanceIn limits (now (t .entry))) n .fields) field 0) × (r ≤ truckMost field) ⌝ }
 {
-    let base = truck_at(t, limits, n);
-    t[base + field]
-}
-
-// A list that stands behind its count.
-fn counted<'a>(t: &'a [u32], at: usize) -> &'a [u32]
-    requires { ⌜ (at < length (now t)) × (at + 1 + getD (now t) at 0 ≤ length (now t)) ⌝ }
-    ensures { λ r. ⌜ now r ≡ take (getD (now (t .entry)) at 0) (drop (at + 1) (now (t .entry))) ⌝ }
-{
-    let first = at + 1;
-    let end = first + as_index(t[at]);
-    &t[first..end]
+    let words = truck_words(t, limits, n);
+    words[field]
 }
 
 // The products that a truck carries.
@@ -188,8 +234,7 @@ pub fn products<'a>(t: &'a [u32], limits: Limits, n: u32) -> &'a [u32]
     requires { ⌜ Filled limits (now t) × TruckNumber (instanceIn limits (now t)) n ⌝ }
     ensures { λ r. ⌜ (now r ≡ truckNumbered (instanceIn limits (now (t .entry))) n .products) × (length (now r) ≤ 32) ⌝ }
 {
-    let base = truck_at(t, limits, n);
-    counted(t, base + PRODUCTS)
+    counted(truck_words(t, limits, n), PRODUCTS)
 }
 
 // The suppliers that a truck visits, in their loading order.
@@ -197,8 +242,16 @@ pub fn suppliers<'a>(t: &'a [u32], limits: Limits, n: u32) -> &'a [u32]
     requires { ⌜ Filled limits (now t) × TruckNumber (instanceIn limits (now t)) n ⌝ }
     ensures { λ r. ⌜ (now r ≡ truckNumbered (instanceIn limits (now (t .entry))) n .suppliers) × (length (now r) ≤ 8) ⌝ }
 {
-    let base = truck_at(t, limits, n);
-    counted(t, base + SUPPLIERS)
+    counted(truck_words(t, limits, n), SUPPLIERS)
+}
+
+// The docks of a supplier among the words of a truck, by the supplier's place in its line, from 0.
+fn docks_at<'a>(words: &'a [u32], row: usize) -> &'a [u32]
+    requires { ⌜ (length (now words) ≡ 160) × (row < 8) × (getD (now words) (62 + row) 0 ≤ 8) ⌝ }
+    ensures { λ r. ⌜ now r ≡ take (getD (now (words .entry)) (62 + row) 0) (drop (70 + 8 * row) (now (words .entry))) ⌝ }
+{
+    let count = as_index(words[DOCK_COUNTS + row]);
+    words_from(words, DOCKS + SUPPLIER_DOCKS * row, count)
 }
 
 // The docks of a truck's supplier, who is given by the loading order.
@@ -207,11 +260,7 @@ pub fn docks<'a>(t: &'a [u32], limits: Limits, n: u32, supplier: usize) -> &'a [
         × (supplier ≤ length (truckNumbered (instanceIn limits (now t)) n .suppliers)) ⌝ }
     ensures { λ r. ⌜ (now r ≡ docksAtOrder (truckNumbered (instanceIn limits (now (t .entry))) n) supplier) × (length (now r) ≤ 8) ⌝ }
 {
-    let base = truck_at(t, limits, n);
-    let row = supplier - 1;
-    let first = base + DOCKS + SUPPLIER_DOCKS * row;
-    let end = first + as_index(t[base + DOCK_COUNTS + row]);
-    &t[first..end]
+    docks_at(truck_words(t, limits, n), supplier - 1)
 }
 
 // The plant docks of a truck, in their loading order.
@@ -219,8 +268,7 @@ pub fn plant_docks<'a>(t: &'a [u32], limits: Limits, n: u32) -> &'a [u32]
     requires { ⌜ Filled limits (now t) × TruckNumber (instanceIn limits (now t)) n ⌝ }
     ensures { λ r. ⌜ (now r ≡ truckNumbered (instanceIn limits (now (t .entry))) n .plantDocks) × (length (now r) ≤ 8) ⌝ }
 {
-    let base = truck_at(t, limits, n);
-    counted(t, base + PLANT_DOCKS)
+    counted(truck_words(t, limits, n), PLANT_DOCKS)
 }
 
 // The place of an identifier in its line, from 1, which is its loading order; 0 where it is not listed.
@@ -255,8 +303,8 @@ pub fn stack_field(t: &[u32], limits: Limits, s: usize, field: usize) -> u32
     requires { ⌜ Filled limits (now t) × (s < length (stacksIn limits (now t))) × (field < 6) ⌝ }
     ensures { λ r. ⌜ (r ≡ getD (stackAt (stacksIn limits (now (t .entry))) s .fields) field 0) × (r ≤ stackMost field) ⌝ }
 {
-    let row = stacks_at(limits) + STACK_WORDS * s;
-    t[row + field]
+    let words = stack_words(t, limits, s);
+    words[field]
 }
 
 // The number of the truck that a stack is on.
@@ -268,23 +316,23 @@ pub fn stack_truck(t: &[u32], limits: Limits, s: usize) -> u32
     stack_field(t, limits, s, TRUCK)
 }
 
+// The load of a stack: the numbers of its items, bottom first.
+pub fn load<'a>(t: &'a [u32], limits: Limits, s: usize) -> &'a [u32]
+    requires { ⌜ Filled limits (now t) × (s < length (stacksIn limits (now t))) ⌝ }
+    ensures { λ r. ⌜ (now r ≡ stackAt (stacksIn limits (now (t .entry))) s .load) × LoadOfItems (instanceIn limits (now (t .entry))) (now r) ⌝ }
+{
+    let words = stack_words(t, limits, s);
+    let first = as_index(words[LOAD_FIRST]);
+    let count = as_index(words[LOAD_COUNT]);
+    words_from(load_words(t, limits), first, count)
+}
+
 // How many items a stack has.
 pub fn load_count(t: &[u32], limits: Limits, s: usize) -> usize
     requires { ⌜ Filled limits (now t) × (s < length (stacksIn limits (now t))) ⌝ }
     ensures { λ r. ⌜ (r ≡ length (stackAt (stacksIn limits (now (t .entry))) s .load)) × (1 ≤ r) × (r ≤ 64) ⌝ }
 {
-    let row = stacks_at(limits) + STACK_WORDS * s;
-    as_index(t[row + LOAD_COUNT])
-}
-
-// Where a stack's load begins in the table.
-fn load_at(t: &[u32], limits: Limits, s: usize) -> usize
-    requires { ⌜ Filled limits (now t) × (s < length (stacksIn limits (now t))) ⌝ }
-    ensures { λ r. ⌜ (r ≡ loadsAt limits + loadFirst limits (now (t .entry)) s)
-        × (r + length (stackAt (stacksIn limits (now (t .entry))) s .load) ≤ length (now (t .entry))) ⌝ }
-{
-    let row = stacks_at(limits) + STACK_WORDS * s;
-    loads_at(limits) + as_index(t[row + LOAD_FIRST])
+    load(t, limits, s).len()
 }
 
 // The number of an item of a stack, by its place in the load, from 0 at the bottom.
@@ -293,6 +341,6 @@ pub fn load_entry(t: &[u32], limits: Limits, s: usize, j: usize) -> u32
         × (j < length (stackAt (stacksIn limits (now t)) s .load)) ⌝ }
     ensures { λ r. ⌜ (r ≡ getD (stackAt (stacksIn limits (now (t .entry))) s .load) j 0) × ItemNumber (instanceIn limits (now (t .entry))) r ⌝ }
 {
-    let first = load_at(t, limits, s);
-    t[first + j]
+    let items = load(t, limits, s);
+    items[j]
 }

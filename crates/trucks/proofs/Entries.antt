@@ -22,7 +22,7 @@ padded-most : (w : ℕ) (l : List ℕ) → length (padded w l) ≡ w → length 
 padded-most w l e = omega (arith, simp (length-append, length-replicate) at e)
 
 module _ {file : List ℕ} {R : Reader (List ℕ)} {p r : Progress} {run : List ℕ} (w : ℕ) where
-  pub few-counted : (a : ReadEntries file R (countedWords w) p r run) → length run ≡ suc w → Going r → length (a .into .value) ≤ w
+  few-counted : (a : ReadEntries file R (countedWords w) p r run) → length run ≡ suc w → Going r → length (a .into .value) ≤ w
   few-counted a l g =
       let long : suc (length (padded w (a .into .value))) ≡ suc w = ap length (sym (a .into .holds g)) ∙ l in
       padded-most w (a .into .value) (omega arith)

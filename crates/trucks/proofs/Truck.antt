@@ -1,9 +1,8 @@
 -- A truck's lines one after another, and its words from the five parts that they are read into.
 use mathlib.Core.Path.{_≡_, refl, sym, ap, _∙_}
 use mathlib.Core.List.{List, [], _++_, append-assoc}
-use Prim.Native.Nat.{ℕ, _+_, _-_, _≤_}
-use native.Mathlib.Omega.{arith}
-use lib.ListN.{length, replicate, replicate-append-replicate}
+use Prim.Native.Nat.{ℕ}
+use lib.ListN.{length}
 use Rattle.meaning.specs.Lists.{padded}
 use Rattle.meaning.specs.Model.{Truck}
 use Rattle.meaning.specs.Reader.{Reader, give, _>>=_, line, times}
@@ -14,7 +13,6 @@ use Rattle.lines.specs.Progress.{reached, resumed, entriesOf, ReadInto, ReadEnt
 use Rattle.lines.proofs.Follow.{past-reader, given-reached, no-refusal, same-resumed}
 use Rattle.trucks.specs.Rows.{dockWords}
 use Rattle.trucks.proofs.Repeat.{Front}
-use Rattle.trucks.proofs.Entries.{few-counted}
 
 -- ---- what is left to read after each line, with what was read before it
 abbrev truckOf : List ℕ → List ℕ → List ℕ → List (List ℕ) → List ℕ → Truck
@@ -40,16 +38,9 @@ partWords t =
 regroup : (f p s d e l z : List ℕ) → ((((f ++ p) ++ s) ++ (d ++ e)) ++ l) ++ z ≡ f ++ (p ++ (s ++ (d ++ (e ++ (l ++ z)))))
 regroup f p s d e l z = simp append-assoc
 
--- more zeros behind entries
-padded-more : (w z : ℕ) (l : List ℕ) → length l ≤ w → padded w l ++ replicate z 0 ≡ padded (w + z) l
-padded-more w z l h =
-    let e : (w - length l) + z ≡ w + z - length l = omega arith in
-    append-assoc l (replicate (w - length l) 0) (replicate z 0)
-    ∙ ap (λ (zeros : List ℕ). l ++ zeros) (replicate-append-replicate {A = ℕ} (w - length l) z 0 ∙ ap (λ (n : ℕ). replicate n 0) e)
-
-parts-words : (t : Truck) → length (partWords t) ≡ 143 → length (t .plantDocks) ≤ 8 → padded 160 (partWords t) ≡ truckWords t
+parts-words : (t : Truck) → length (partWords t) ≡ 143 → padded 160 (partWords t) ≡ truckWords t
 unfolding truckWords
-parts-words t wide few = rw (wide, regroup, padded-more 8 17 (t .plantDocks) few) refl
+parts-words t wide = rw (wide, regroup) refl
 
 -- ---- the whole truck
 module _ {file : List ℕ} {p q₁ q₂ q₃ q₄ q₅ : Progress} {w₁ w₂ w₃ w₄ w₅ : List ℕ}
@@ -80,9 +71,9 @@ module _ {file : List ℕ} {p q₁ q₂ q₃ q₄ q₅ : Progress} {w₁ w₂ w�
       ∙ past-reader file q₄ q₅ ls _ (λ l. give (truckOf f ps ss ds l)) (plantDocks .into .says)
       ∙ given-reached file truck q₅)
 
-  pub truck-read : {out : List ℕ} → length w₅ ≡ 9 → Front 160 143 ((((([] ++ w₁) ++ w₂) ++ w₃) ++ w₄) ++ w₅) out
+  pub truck-read : {out : List ℕ} → Front 160 143 ((((([] ++ w₁) ++ w₂) ++ w₃) ++ w₄) ++ w₅) out
       → ReadInto file truckLines truckWords p q₅ out
-  truck-read nine front = record {
+  truck-read front = record {
     value = truck;
     says = says;
     holds = λ g₅.
@@ -91,6 +82,6 @@ module _ {file : List ℕ} {p q₁ q₂ q₃ q₄ q₅ : Progress} {w₁ w₂ w�
         let g₂ = no-refusal (suppliers .into) g₃ in
         let g₁ = no-refusal (products .into) g₂ in
         let filled = rw (row .holds g₁, products .into .holds g₂, suppliers .into .holds g₃, docks .holds g₄, plantDocks .into .holds g₅) at front in
-        filled .stands ∙ parts-words truck (filled .wide) (few-counted 8 plantDocks nine g₅);
+        filled .stands ∙ parts-words truck (filled .wide);
     sound = plantDocks .into .sound;
   }

@@ -1,4 +1,5 @@
 -- How large what the rules see of a stack can be, for sums and products of it.
+use mathlib.Core.Path.{_≡_, refl}
 use mathlib.Core.Bool.{Bool, true, false, cond}
 use mathlib.Core.List.{List}
 use Prim.Native.Nat.{ℕ, _≤_, _<_}
@@ -14,10 +15,18 @@ use Rattle.meaning.proofs.Orders.{order-most}
 use Rattle.table.specs.Filled.{Filled, stackAt, itemMost}
 use Rattle.table.proofs.Bounds.{item-most}
 use Rattle.table.proofs.Access.{item-in, truck-in, stack-in}
+use Rattle.views.specs.declared.Extent.{Extent}
+use Rattle.views.specs.Views.{positionOf, PositionInRange, extentOf}
 
 pub either-most : (b : Bool) (u v most : ℕ) → u ≤ most → v ≤ most → cond b u v ≤ most
 either-most true u v most h k = h
 either-most false u v most h k = k
+
+-- each extent of a stack is the length or the width of its bottom item
+pub extent-most : (length width orientation most : ℕ) {extent : Extent} → extent ≡ extentOf length width orientation → length ≤ most → width ≤ most
+    → (extent .along ≤ most) × (extent .across ≤ most)
+extent-most length width orientation most e long wide =
+    rw e (either-most (eqb orientation 1) length width most long wide, either-most (eqb orientation 1) width length most wide long)
 
 module _ {m : Limits} {t : List ℕ} (h : Filled m t) (s : ℕ) (l : s < length (stacksIn m t)) where
   -- a field of an item of the load
@@ -28,6 +37,11 @@ module _ {m : Limits} {t : List ℕ} (h : Filled m t) (s : ℕ) (l : s < length 
   pub stack-truck-in : TruckMeets (truckOf (instanceIn m t) (stackAt (stacksIn m t) s))
   stack-truck-in = truck-in h (truck (stackAt (stacksIn m t) s)) (stack-in h s l .within 1 (omega arith))
 
+  pub position-in : PositionInRange (positionOf (stackAt (stacksIn m t) s))
+  position-in =
+      let within = stack-in h s l .within in
+      record { x = within 3 (omega arith) .1; y = within 4 (omega arith) .1; turned = within 5 (omega arith) }
+
   pub footprint-bounds : let i = instanceIn m t in let a = stackAt (stacksIn m t) s in (x a ≤ 20000) × (xe i a ≤ 40000) × (y a ≤ 20000) × (ye i a ≤ 40000)
   footprint-bounds =
       let i = instanceIn m t in
@@ -35,11 +49,8 @@ module _ {m : Limits} {t : List ℕ} (h : Filled m t) (s : ℕ) (l : s < length 
       let b = stack-in h s l in
       let long = entry-most 0 0 (b .someEntry) (omega arith) in
       let wide = entry-most 0 1 (b .someEntry) (omega arith) in
-      let along = either-most (eqb (orientation a) 1) (sl i a) (sw i a) 20000 long wide in
-      let across = either-most (eqb (orientation a) 1) (sw i a) (sl i a) 20000 wide long in
-      let atX = b .within 3 (omega arith) .1 in
-      let atY = b .within 4 (omega arith) .1 in
-      (atX, omega arith, atY, omega arith)
+      let extent = extent-most (sl i a) (sw i a) (orientation a) 20000 refl long wide in
+      (position-in .x, omega (arith, position-in .x), position-in .y, omega (arith, position-in .y))
 
   pub orders-bound : (n : ℕ) → plantDockOrder (instanceIn m t) (stackAt (stacksIn m t) s) (item (instanceIn m t) n) ≤ 8
   orders-bound n = order-most 8 _ _ (stack-truck-in .plantDocks .most)

@@ -1,4 +1,4 @@
 pub mod Loads
 pub mod Stacks
 pub mod Bounds
-pub mod Spans
+pub mod OrderRanges

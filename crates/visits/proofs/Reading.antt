@@ -54,7 +54,7 @@ module _ {m : Limits} {t rows : List ℕ} (h : HoldsRows m t rows) where
     pub footprint-is : footprintAt rows k ≡ footprintOf i (visitAt p k)
     footprint-is = rw (word-is 4 (omega arith), word-is 5 (omega arith), word-is 6 (omega arith), word-is 7 (omega arith)) refl
 
-    pub rank-is : rankAt rows k ≡ rankOf i (visitAt p k)
+    pub rank-is : rankAt rows k ≡ rankOf i (truck (visitAt p k)) (visitAt p k .load)
     unfolding rankOf
     rank-is =
         rw (

@@ -6,7 +6,7 @@ use lib.Dec.{eqb, ltb}
 use lib.ListN.{length, getD, length-map}
 use Rattle.meaning.specs.declared.Limits.{Limits}
 use Rattle.meaning.specs.Lists.{Every, orderIn}
-use Rattle.meaning.specs.Model.{Item, item, truckOf, IG, IU, IK}
+use Rattle.meaning.specs.Model.{Item, item, truck, truckOf, IG, IU, IK}
 use Rattle.meaning.specs.Files.{docksLine}
 use Rattle.meaning.specs.Measures.{sm, bottom, docksOf, supplierDockOrder, plantDockOrder, plantDocksOf}
 use Rattle.meaning.specs.Rules.{plantDockCount}
@@ -16,7 +16,7 @@ use Rattle.meaning.proofs.Lists.{every-map, every-or, dedup-most}
 use Rattle.meaning.proofs.Orders.{order-most}
 use Rattle.table.specs.Filled.{Filled, stackAt}
 use Rattle.table.proofs.Access.{stack-in, stack-weight, stack-field-most}
-use Rattle.views.specs.Views.{spanOf, plantDockOrders}
+use Rattle.views.specs.Views.{rangeOf, plantDockOrders}
 use Rattle.views.proofs.Bounds.{either-most, entry-most, stack-truck-in, footprint-bounds, orders-bound, supplier-order-bound}
 use Rattle.visits.specs.Visits.{rowOf, rowMost}
 
@@ -32,14 +32,14 @@ most-at none k = omega arith
 most-at (h then r) zero = h
 most-at (h then r) (suc k) = most-at r k
 
--- the span of loading orders up to 8
-spans-most : {A : Type 0} (f : A → ℕ) → ((a : A) → f a ≤ 8) → (l : List A) → (spanOf (map f l) .lowest ≤ 8) × (spanOf (map f l) .highest ≤ 8)
-unfolding spanOf
-spans-most f h [] = (omega arith, omega arith)
-spans-most f h (a ∷ l) =
-    let rest = spans-most f h l in
-    let span = spanOf (map f l) in
-    (either-most (ltb (f a) (span .lowest)) (f a) _ 8 (h a) (rest .0), either-most (ltb (span .highest) (f a)) (f a) _ 8 (h a) (rest .1))
+-- the range of loading orders up to 8
+ranges-most : {A : Type 0} (f : A → ℕ) → ((a : A) → f a ≤ 8) → (l : List A) → (rangeOf (map f l) .lowest ≤ 8) × (rangeOf (map f l) .highest ≤ 8)
+unfolding rangeOf
+ranges-most f h [] = (omega arith, omega arith)
+ranges-most f h (a ∷ l) =
+    let rest = ranges-most f h l in
+    let range = rangeOf (map f l) in
+    (either-most (ltb (f a) (range .lowest)) (f a) _ 8 (h a) (rest .0), either-most (ltb (range .highest) (f a)) (f a) _ 8 (h a) (rest .1))
 
 -- ---- the row of a stack of a filled table
 module _ {m : Limits} {t : List ℕ} (h : Filled m t) (s : ℕ) (l : s < length (stacksIn m t)) where
@@ -57,11 +57,12 @@ module _ {m : Limits} {t : List ℕ} (h : Filled m t) (s : ℕ) (l : s < length 
       let each : Every P ([] ∷ carrier .docks) = (omega arith, every-map (Meets docksLine) P (λ l e. e .most) (carrier .docks) (stack-truck-in h s l .docks)) in
       order-most 8 (docksOf carrier (IU a)) (IK a) (every-or P [] (omega arith) ([] ∷ carrier .docks) each (orderIn (carrier .suppliers) (IU a)))
 
-  span-most : let span = spanOf (plantDockOrders (instanceIn m t) (stackAt (stacksIn m t) s)) in (span .lowest ≤ 8) × (span .highest ≤ 8)
+  range-most : let a = stackAt (stacksIn m t) s in
+      let range = rangeOf (plantDockOrders (instanceIn m t) (truck a) (a .load)) in (range .lowest ≤ 8) × (range .highest ≤ 8)
   unfolding plantDockOrders
-  span-most =
+  range-most =
       let a = stackAt (stacksIn m t) s in
-      spans-most (λ n. plantDockOrder (instanceIn m t) a (item (instanceIn m t) n)) (orders-bound h s l) (a .load)
+      ranges-most (λ n. plantDockOrder (instanceIn m t) a (item (instanceIn m t) n)) (orders-bound h s l) (a .load)
 
   pub row-most : (k : ℕ) → getD (rowOf (instanceIn m t) (stacksIn m t) s) k 0 ≤ rowMost k
   row-most k =
@@ -86,7 +87,7 @@ module _ {m : Limits} {t : List ℕ} (h : Filled m t) (s : ℕ) (l : s < length 
       then entry-most h s l 0 14 (b .someEntry) (omega arith)
       then supplier-order-bound h s l
       then dock-order-most (bottom (instanceIn m t) a)
-      then span-most .0
-      then span-most .1
+      then range-most .0
+      then range-most .1
       then none)
       k

@@ -17,7 +17,7 @@ use Rattle.meaning.specs.Meets.{StacksMeet}
 use Rattle.meaning.proofs.Tests.{fails}
 use Rattle.meaning.proofs.Lists.{NoRepeat, at-in, in-at, in-map, every-at, every-map, every-reads, filter-all, map-at}
 use Rattle.meaning.proofs.Permute.{map-perm, noRepeat-perm}
-use Rattle.meaning.proofs.Sound.{not-earlier}
+use Rattle.meaning.proofs.WellFormed.{not-earlier}
 use Rattle.meaning.proofs.RuleKinds.{used-reads}
 use Rattle.table.specs.Filled.{Filled, noStack}
 use Rattle.table.proofs.Bounds.{StackBounded}

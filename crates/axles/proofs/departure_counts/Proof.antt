@@ -1,30 +1,28 @@
--- `axles::departure_counts`: no stack passed so far is on, so the departure counts exactly where one of those left is.
-use mathlib.Core.Path.{_≡_, refl, _∙_}
-use Prim.Native.Nat.{_-_, _≤_}
-use native.Mathlib.Omega.{arith}
+-- No stack passed so far is on, so the departure counts exactly where one of those left is.
+use mathlib.Core.Path.{refl}
+use Prim.Native.Nat.{_-_}
 use borrow.Author.Needs.{needs}
-use Rattle.meaning.specs.Rules.{counts}
-use Rattle.axles.specs.Aboard.{cargoStacks}
-use Rattle.axles.proofs.Aboard.{onFrom, counts-none, counts-here, counts-later}
+use Rattle.axles.proofs.Places.{NoneBefore, none-on, on-here, none-here}
 use Rattle.axles.proofs.departure_counts.Statement.{statement}
 use Rattle.axles.proofs.departure_counts.Tie as tie
 
 abbrev Inv-loop : tie.InvT-loop
-Inv-loop t limits rows cargo end k₀ k = (k ≤ cargo .end) × (counts (onFrom limits t cargo k) ≡ counts (cargoStacks limits t cargo))
+Inv-loop rows departure end k₀ k = NoneBefore rows departure k₀ k end
 
 abbrev μ-loop : tie.MeasureT-loop
-μ-loop t limits rows cargo end k₀ k = cargo .end - k
+μ-loop rows departure end k₀ k = end - k
 
 loop-holds : tie.Need-loop-holds Inv-loop μ-loop
-loop-holds c = (omega arith, refl)
+loop-holds c = record { rest = refl }
 
-is-aboard-requires : tie.Need-is-aboard-requires Inv-loop μ-loop
-is-aboard-requires c κs = search needs
+is-on-requires : tie.Need-is-on-requires Inv-loop μ-loop
+is-on-requires c κs = search needs
 
 returns : tie.Need-returns Inv-loop μ-loop
 returns c =
-    let l = c .before .before .before in
-    counts-here (l .before .before .before .pre) refl (omega arith) (c .before .is-aboard .ensures) (c .if1 .taken) ∙ l .loop .inv .1
+    let on = c .before in
+    let inside = on .before in
+    on-here (inside .before .loop .inv) (on .is-on .ensures) (inside .loop-test .taken) (c .if1 .taken)
 
 add-k : tie.Need-add-k Inv-loop μ-loop
 add-k c = search needs
@@ -34,16 +32,12 @@ loop-less c = search needs
 
 loop-again : tie.Need-loop-again Inv-loop μ-loop
 loop-again c =
-    let l = c .before .before .before in
-    let later = counts-later (l .before .before .before .pre) refl (omega arith) (c .before .is-aboard .ensures) (c .if1 .left) in
-    (omega arith, later ∙ l .loop .inv .1)
+    let on = c .before in
+    let inside = on .before in
+    none-here (inside .before .loop .inv) (on .is-on .ensures) (inside .loop-test .taken) (c .if1 .left)
 
 returns-2 : tie.Need-returns-2 Inv-loop μ-loop
-returns-2 c =
-    let l = c .before in
-    let s = l .before .before .before in
-    let e : l .loop .k ≡ s .args .cargo .end = omega arith in
-    counts-none (s .pre) ∙ rw e at (l .loop .inv .1)
+returns-2 c = none-on (c .before .loop .inv) (c .loop-test .left)
 
 pub departure-counts-spec : {M : Type 1} → statement M
 departure-counts-spec =
@@ -52,7 +46,7 @@ departure-counts-spec =
     Inv-loop
     μ-loop
     loop-holds
-    is-aboard-requires
+    is-on-requires
     returns
     add-k
     loop-less

@@ -1,6 +1,6 @@
 -- `axles::lever_by`: the factors and their product are within their bounds, so that no operation overflows.
 use borrow.Author.Needs.{needs}
-use Rattle.axles.specs.Aboard.{leverBy}
+use Rattle.axles.specs.Weights.{leverBy}
 use Rattle.axles.proofs.Signed.{Amount, unsigned, minus, times}
 use Rattle.axles.proofs.lever_by.Statement.{statement}
 use Rattle.axles.proofs.lever_by.Tie as tie

@@ -1,70 +1,80 @@
--- `axles::middle_holds`: both sides are built from numbers within their bounds, so that no operation overflows and they are the contract's.
+-- All numbers are within their bounds, so that no operation overflows, and they are the contract's.
+use Rattle.axles.specs.Weights.{middleHolds}
+use Rattle.axles.proofs.Signed.{Amount, unsigned, literal, given, plus, times, at-most}
 use borrow.Author.Needs.{needs}
-use Rattle.axles.specs.Aboard.{middleHolds}
-use Rattle.axles.proofs.Signed.{Amount, moderate-size, unsigned, literal, given, plus, times, at-most}
 use Rattle.axles.proofs.middle_holds.Statement.{statement}
 use Rattle.axles.proofs.middle_holds.Tie as tie
 
+-- where the fields are read, and the entry before that
+abbrev Read : Type 0
+Read = tie.After-struct-known6
+
+abbrev entry : Read → tie.Start
+entry c = c .before .before .before .before .before .before
+
 -- the code's numbers
-abbrev twice : tie.Start → Amount
-twice c = times (literal 2 tt) (unsigned (c .pre .1) tt) tt
+abbrev twice : Read → Amount
+twice c = times (literal 2 tt) (unsigned (entry c .pre .1 .ejhr) tt) tt
 
-abbrev reach : tie.Start → Amount
-reach c = times (twice c) (unsigned (c .pre .5) tt) tt
+abbrev heavy : Read → Amount
+heavy c = times (twice c) (unsigned (entry c .pre .1 .cm) tt) tt
 
-abbrev most : tie.Start → Amount
-most c = times (reach c) (unsigned (c .pre .6) tt) tt
+abbrev tractor : Read → Amount
+tractor c = times (heavy c) (unsigned (entry c .pre .1 .cjfc) tt) tt
 
-abbrev heavy : tie.Start → Amount
-heavy c = times (twice c) (unsigned (c .pre .2) tt) tt
+abbrev load : Read → Amount
+load c = times (given (entry c .fits .h) (entry c .pre .0)) (unsigned (entry c .pre .1 .cjfh) tt) tt
 
-abbrev tractor : tie.Start → Amount
-tractor c = times (heavy c) (unsigned (c .pre .3) tt) tt
-
-abbrev load : tie.Start → Amount
-load c = times (given (c .fits .h) (moderate-size _ (c .pre .0))) (unsigned (c .pre .4) tt) tt
-
-abbrev both : tie.Start → Amount
+abbrev both : Read → Amount
 both c = plus (tractor c) (load c) tt
 
-cast-twice : tie.Need-cast-twice
-cast-twice c = search needs
+abbrev reach : Read → Amount
+reach c = times (twice c) (unsigned (entry c .pre .1 .cjfm) tt) tt
 
-mul-twice : tie.Need-mul-twice
-mul-twice c = twice c .fits
+abbrev most : Read → Amount
+most c = times (reach c) (unsigned (entry c .pre .1 .emmm) tt) tt
 
-cast-most : tie.Need-cast-most
-cast-most c = search needs
+cast-ejhr : tie.Need-cast-ejhr
+cast-ejhr c = search needs
 
-mul-most : tie.Need-mul-most
-mul-most c = reach c .fits
+cast-cm : tie.Need-cast-cm
+cast-cm c = search needs
 
-cast-most-2 : tie.Need-cast-most-2
-cast-most-2 c = search needs
+cast-cjfc : tie.Need-cast-cjfc
+cast-cjfc c = search needs
 
-mul-most-2 : tie.Need-mul-most-2
-mul-most-2 c = most c .fits
+cast-cjfh : tie.Need-cast-cjfh
+cast-cjfh c = search needs
 
-cast-result : tie.Need-cast-result
-cast-result c = search needs
+cast-cjfm : tie.Need-cast-cjfm
+cast-cjfm c = search needs
+
+cast-emmm : tie.Need-cast-emmm
+cast-emmm c = search needs
 
 mul-result : tie.Need-mul-result
-mul-result c = heavy c .fits
-
-cast-result-2 : tie.Need-cast-result-2
-cast-result-2 c = search needs
+mul-result c = twice c .fits
 
 mul-result-2 : tie.Need-mul-result-2
-mul-result-2 c = tractor c .fits
-
-cast-result-3 : tie.Need-cast-result-3
-cast-result-3 c = search needs
+mul-result-2 c = heavy c .fits
 
 mul-result-3 : tie.Need-mul-result-3
-mul-result-3 c = load c .fits
+mul-result-3 c = tractor c .fits
+
+mul-result-4 : tie.Need-mul-result-4
+mul-result-4 c = load c .fits
 
 add-result : tie.Need-add-result
 add-result c = both c .fits
+
+mul-result-5 : tie.Need-mul-result-5
+mul-result-5 c = twice c .fits
+
+mul-result-6 : tie.Need-mul-result-6
+mul-result-6 c = reach c .fits
+
+mul-result-7 : tie.Need-mul-result-7
+mul-result-7 c = most c .fits
 
 returns : tie.Need-returns
 unfolding middleHolds
@@ -74,17 +84,18 @@ pub middle-holds-spec : {M : Type 1} → statement M
 middle-holds-spec =
     tie.close
     (tie.spec
-    cast-twice
-    mul-twice
-    cast-most
-    mul-most
-    cast-most-2
-    mul-most-2
-    cast-result
+    cast-ejhr
+    cast-cm
+    cast-cjfc
+    cast-cjfh
+    cast-cjfm
+    cast-emmm
     mul-result
-    cast-result-2
     mul-result-2
-    cast-result-3
     mul-result-3
+    mul-result-4
     add-result
+    mul-result-5
+    mul-result-6
+    mul-result-7
     returns)

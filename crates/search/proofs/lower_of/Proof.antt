@@ -26,7 +26,7 @@ returns-2 : tie.Need-returns-2
 returns-2 c = one-found _ _ _ (c .before .before .before .a .given .1) (c .enum-told2 .given .1)
 
 returns-3 : tie.Need-returns-3
-returns-3 c = both-found _ _ _ _ _ (c .before .before .before .before .before .a .given .1) (c .before .before .b .given .1) (c .lower-place .ensures)
+returns-3 c = both-found _ _ _ _ (c .before .before .before .before .before .a .given .1) (c .before .before .b .given .1) (c .lower-place .ensures)
 
 pub lower-of-spec : {M : Type 1} → statement M
 lower-of-spec =

@@ -1,27 +1,27 @@
--- `table::load_entry`: the word is the entry of the load, whose range says that it is an item's number.
+-- `table::load_entry`: the entry of the load, which is an item's number.
+use mathlib.Core.Path.{ap}
+use mathlib.Core.List.{List}
+use Prim.Native.Nat.{ℕ}
 use native.Mathlib.Omega.{arith}
+use lib.ListN.{length, getD}
 use borrow.Author.Needs.{needs}
-use Rattle.table.proofs.Access.{entry-read}
 use Rattle.table.proofs.load_entry.Statement.{statement}
 use Rattle.table.proofs.load_entry.Tie as tie
 
-load-at-requires : tie.Need-load-at-requires
-load-at-requires c κs = search needs
-
-add-result : tie.Need-add-result
-add-result c = search needs
+load-requires : tie.Need-load-requires
+load-requires c κs = search needs
 
 mul-result : tie.Need-mul-result
-mul-result c = search needs
+mul-result c = omega (arith, ap length (c .load .ensures .0))
 
 shared-slice-read-result : tie.Need-shared-slice-read-result
-shared-slice-read-result c = search needs
+shared-slice-read-result c = omega (arith, ap length (c .before .load .ensures .0))
 
 returns : tie.Need-returns
 returns c =
     let s = c .before .before .before in
-    entry-read (s .pre .0) (s .args .s) (s .pre .1) (s .args .j) _ (s .pre .2) (omega arith)
+    let load = c .before .load .ensures in
+    (ap (λ (l : List ℕ). getD l (s .args .j) 0) (load .0), load .1 .entries (s .args .j) (omega (arith, ap length (load .0))))
 
 pub load-entry-spec : {M : Type 1} → statement M
-load-entry-spec =
-    tie.close (tie.spec load-at-requires add-result mul-result shared-slice-read-result returns)
+load-entry-spec = tie.close (tie.spec load-requires mul-result shared-slice-read-result returns)

@@ -1,21 +1,11 @@
 -- `table::stack_field`: the word is the field of the stack, within its range.
-use native.Mathlib.Omega.{arith}
-use borrow.Author.Needs.{needs}
 use Rattle.table.proofs.Access.{stack-read}
+use borrow.Author.Needs.{needs}
 use Rattle.table.proofs.stack_field.Statement.{statement}
 use Rattle.table.proofs.stack_field.Tie as tie
 
-stacks-at-requires : tie.Need-stacks-at-requires
-stacks-at-requires c κs = search needs
-
-mul-row : tie.Need-mul-row
-mul-row c = search needs
-
-add-row : tie.Need-add-row
-add-row c = search needs
-
-add-result : tie.Need-add-result
-add-result c = search needs
+stack-words-requires : tie.Need-stack-words-requires
+stack-words-requires c κs = search needs
 
 mul-result : tie.Need-mul-result
 mul-result c = search needs
@@ -26,16 +16,8 @@ shared-slice-read-result c = search needs
 returns : tie.Need-returns
 returns c =
     let s = c .before .before .before in
-    stack-read (s .pre .0) (s .args .s) (s .args .field) _ (s .pre .1) (s .pre .2) (omega arith)
+    stack-read (s .pre .0) (s .pre .1) (c .before .stack-words .ensures .0) (s .args .field) (s .pre .2)
 
 pub stack-field-spec : {M : Type 1} → statement M
 stack-field-spec =
-    tie.close
-    (tie.spec
-    stacks-at-requires
-    mul-row
-    add-row
-    add-result
-    mul-result
-    shared-slice-read-result
-    returns)
+    tie.close (tie.spec stack-words-requires mul-result shared-slice-read-result returns)

@@ -151,12 +151,11 @@ returns c =
     let products = suppliers .before .before .before .before .before in
     let row = products .before .before .before .before .before in
     let entries = docks .before .before .entries in
-    let nine = front-lent (after-docks docks .2) 9 (omega arith) in
     truck-read (row .read-truck-fields .ensures)
     (rw (front-lent (after-row row .2) 33 (omega arith)) at (products .counted-line .ensures "products=" refl))
     (rw (front-lent (after-products products .2) 9 (omega arith)) at (suppliers .counted-line2 .ensures "suppliers=" refl))
     (entries .result) (entries .ensures) (docks .read-docks .ensures)
-    (rw nine at (plantDocks .counted-line3 .ensures "plantdocks=" refl)) (plantDocks .counted-line3 .kept .1 .1 .1 .0 ∙ nine)
+    (rw (front-lent (after-docks docks .2) 9 (omega arith)) at (plantDocks .counted-line3 .ensures "plantdocks=" refl))
     (after-plant-docks plantDocks .2)
 
 pub read-truck-spec : {M : Type 1} → statement M

@@ -1,35 +1,36 @@
 -- `views::has_plant_dock`: the dock is among all from `from` on exactly when it is among those that are left.
 use Prim.Native.Nat.{_-_}
 use native.Mathlib.Omega.{arith}
-use borrow.Author.Needs.{needs}
-use Rattle.meaning.specs.Table.{instanceIn, stacksIn}
-use Rattle.table.specs.Filled.{stackAt}
+use lib.ListN.{length}
+use Rattle.meaning.specs.Table.{instanceIn}
 use Rattle.views.proofs.Loads.{Passed, passed-start, passed-found, passed-more, passed-end}
+use borrow.Author.Needs.{needs}
 use Rattle.views.proofs.has_plant_dock.Statement.{statement}
 use Rattle.views.proofs.has_plant_dock.Tie as tie
 
 abbrev Inv-loop : tie.InvT-loop
-Inv-loop t limits s from dock n j₀ j = Passed (instanceIn limits t) (stackAt (stacksIn limits t) s) dock from j
+Inv-loop t limits load from dock j₀ j = Passed (instanceIn limits t) load dock from j
 
 abbrev μ-loop : tie.MeasureT-loop
-μ-loop t limits s from dock n j₀ j = n - j
-
-load-count-requires : tie.Need-load-count-requires Inv-loop μ-loop
-load-count-requires c κs = search needs
+μ-loop t limits load from dock j₀ j = length load - j
 
 loop-holds : tie.Need-loop-holds Inv-loop μ-loop
 loop-holds c = passed-start (c .before .before .pre .2)
 
-load-entry-requires : tie.Need-load-entry-requires Inv-loop μ-loop
-load-entry-requires c κs = search needs
+mul-item-field : tie.Need-mul-item-field Inv-loop μ-loop
+mul-item-field c = search needs
+
+shared-slice-read-item-field : tie.Need-shared-slice-read-item-field Inv-loop μ-loop
+shared-slice-read-item-field c = search needs
 
 item-field-requires : tie.Need-item-field-requires Inv-loop μ-loop
-item-field-requires c κs = search needs
+item-field-requires c κs =
+    let l = c .before .before in
+    let s = l .before .before .before in
+    (s .pre .0, s .pre .1 .entries (l .loop .j) (omega arith), omega arith)
 
 returns : tie.Need-returns Inv-loop μ-loop
-returns c =
-    let e = c .before .before in
-    passed-found (e .before .before .loop .inv) (omega arith) (e .load-entry .ensures .0) (c .before .item-field .ensures .0) (c .if1 .taken)
+returns c = let dock = c .before in passed-found (dock .before .before .before .loop .inv) (omega arith) (dock .item-field .ensures .0) (c .if1 .taken)
 
 add-j : tie.Need-add-j Inv-loop μ-loop
 add-j c = search needs
@@ -38,9 +39,7 @@ loop-less : tie.Need-loop-less Inv-loop μ-loop
 loop-less c = search needs
 
 loop-again : tie.Need-loop-again Inv-loop μ-loop
-loop-again c =
-    let e = c .before .before in
-    passed-more (e .before .before .loop .inv) (omega arith) (e .load-entry .ensures .0) (c .before .item-field .ensures .0) (c .if1 .left)
+loop-again c = let dock = c .before in passed-more (dock .before .before .before .loop .inv) (omega arith) (dock .item-field .ensures .0) (c .if1 .left)
 
 returns-2 : tie.Need-returns-2 Inv-loop μ-loop
 returns-2 c = passed-end (c .before .loop .inv) (omega arith)
@@ -51,9 +50,9 @@ has-plant-dock-spec =
     (tie.spec
     Inv-loop
     μ-loop
-    load-count-requires
     loop-holds
-    load-entry-requires
+    mul-item-field
+    shared-slice-read-item-field
     item-field-requires
     returns
     add-j

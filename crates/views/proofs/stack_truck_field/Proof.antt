@@ -1,8 +1,5 @@
 -- `views::stack_truck_field`: the field of the truck whose number the stack has.
 use borrow.Author.Needs.{needs}
-use Rattle.meaning.specs.Table.{instanceIn, stacksIn}
-use Rattle.table.specs.Filled.{stackAt}
-use Rattle.views.proofs.Stacks.{carrier-is}
 use Rattle.views.proofs.stack_truck_field.Statement.{statement}
 use Rattle.views.proofs.stack_truck_field.Tie as tie
 
@@ -13,11 +10,7 @@ truck-field-requires : tie.Need-truck-field-requires
 truck-field-requires c κs = search needs
 
 returns : tie.Need-returns
-returns c =
-    let a = c .before .before .before .args in
-    let i = instanceIn (a .limits) (a .t .now) in
-    let stack = stackAt (stacksIn (a .limits) (a .t .now)) (a .s) in
-    (carrier-is i stack (a .field) (c .before .stack-truck .ensures .0) (c .truck-field .ensures .0), c .truck-field .ensures .1)
+returns c = rw (c .before .stack-truck .ensures .0) at (c .truck-field .ensures)
 
 pub stack-truck-field-spec : {M : Type 1} → statement M
 stack-truck-field-spec = tie.close (tie.spec stack-truck-requires truck-field-requires returns)

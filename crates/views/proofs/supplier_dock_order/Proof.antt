@@ -9,15 +9,25 @@ item-field-requires c κs = search needs
 supplier-order-requires : tie.Need-supplier-order-requires
 supplier-order-requires c κs = search needs
 
+item-field-requires-2 : tie.Need-item-field-requires-2
+item-field-requires-2 c κs = search needs
+
 dock-order-requires : tie.Need-dock-order-requires
-dock-order-requires c κs =
-    let supplier = c .before in
-    let s = supplier .before .before in
-    (s .pre .0, s .pre .1, s .pre .2, rw (supplier .item-field .ensures .0) at (c .supplier-order .ensures .0), c .supplier-order .ensures .1)
+dock-order-requires c κs = search needs
 
 returns : tie.Need-returns
-returns c = search needs
+returns c =
+    let dock = c .before in
+    let order = dock .before in
+    let supplier = order .before in
+    rw (dock .item-field2 .ensures .0, order .supplier-order .ensures .0, supplier .item-field .ensures .0) at (c .dock-order .ensures)
 
 pub supplier-dock-order-spec : {M : Type 1} → statement M
 supplier-dock-order-spec =
-    tie.close (tie.spec item-field-requires supplier-order-requires dock-order-requires returns)
+    tie.close
+    (tie.spec
+    item-field-requires
+    supplier-order-requires
+    item-field-requires-2
+    dock-order-requires
+    returns)
