@@ -119,11 +119,12 @@ module _ {rule : PairRule} {m : Limits} {t rows order : List ℕ} {k : ℕ} (sta
     abbrev s : Stack
     s = visitAt p a
 
-    pub first-within : a < length p
+    first-within : a < length p
     first-within = inside-a (stacks .held) (l .partners)
 
-    pub partner-within : b < end → b < length p
-    partner-within up = omega (arith, behind (stacks .held) (l .partners) .0 .within)
+    -- both are places of the rows
+    pub within : b < end → (a < length p) × (b < length p)
+    within up = (first-within, omega (arith, behind (stacks .held) (l .partners) .0 .within))
 
     -- a stack of the used truck with a lower number has been asked
     asked-turned : (j : ℕ) → j < length p → usedBy s ≡ usedBy (visitAt p j) → number (visitAt p j) < number s → pairTest rule i (visitAt p j) s ≡ true
@@ -181,7 +182,7 @@ module _ {rule : PairRule} {m : Limits} {t rows order : List ℕ} {k : ℕ} (sta
             let from = l .partners .from in
             record {
               first = stack-in (stacks .held) a first-within;
-              second = stack-in (stacks .held) b (partner-within up);
+              second = stack-in (stacks .held) b (within up .1);
               used = partner-used (stacks .held) (l .partners) rule from b (l .passed .from) up;
               differ = partner-differs (stacks .held) (l .partners) rule from b (l .passed .from) up breaks;
               breaks = breaks;
@@ -210,7 +211,7 @@ module _ {rule : PairRule} {m : Limits} {t rows order : List ℕ} {k : ℕ} (sta
         pub pair-found : {first second : ℕ} → first ≡ rowWord rows a 1 → second ≡ rowWord rows b 1
             → At (place first second 0) ≡ lowestIn (pairPlaces (pairTest rule) i p)
         pair-found ef es =
-            rw (ef, es, word-is (stacks .held) a first-within 1 (omega arith), word-is (stacks .held) b (partner-within up) 1 (omega arith))
+            rw (ef, es, word-is (stacks .held) a first-within 1 (omega arith), word-is (stacks .held) b (within up .1) 1 (omega arith))
             (found-first _ _ (pair-listed (pairTest rule) i p s (visitAt p b) found) (λ q m before.
             let w = listed-pair (pairTest rule) i p q m in
             none-before (w .0) (w .1) (w .2) (subst (λ (z : Place). Before z (place (number s) (number (visitAt p b)) 0)) (w .3) before)))

@@ -5,7 +5,7 @@ use mathlib.Core.List.{List}
 use Prim.Native.Nat.{ℕ, zero, suc, _+_, _-_, _≤_, _<_}
 use native.Mathlib.Nat.{eq-or-lt-of-le}
 use native.Mathlib.Omega.{arith}
-use lib.ListN.{length, getD, take, set}
+use lib.ListN.{length, getD, take, set, length-set}
 use lib.Seq.{getD-take, getD-set-same, getD-set-other}
 use Rattle.meaning.specs.Lists.{upFrom, In}
 use Rattle.meaning.proofs.Tests.{iff-trans}
@@ -21,20 +21,23 @@ use Rattle.pairrules.specs.PairRules.{Inside, SortedRows, placeAt}
 -- those of the places before the k-th are written
 pub record Written (rows : List ℕ) (on : Block) (word : ℕ) (keys : List ℕ) (k : ℕ) : Type 0 where
   pub few : k ≤ on .end - on .start
+  pub room : on .end - on .start ≤ length keys
   pub each : (j : ℕ) → j < k → getD keys j 0 ≡ rowWord rows (on .start + j) word
 
 module _ {rows : List ℕ} {on : Block} {word : ℕ} {keys : List ℕ} where
-  pub written-none : Written rows on word keys 0
-  written-none = record { few = omega arith; each = λ j less. absurd (omega arith) }
+  pub written-none : on .end - on .start ≤ length keys → Written rows on word keys 0
+  written-none room = record { few = omega arith; room = room; each = λ j less. absurd (omega arith) }
 
   module _ {k : ℕ} (h : Written rows on word keys k) where
-    pub written-more : {v : ℕ} → k < on .end - on .start → k < length keys → v ≡ rowWord rows (on .start + k) word
+    pub written-more : {v : ℕ} → k < on .end - on .start → v ≡ rowWord rows (on .start + k) word
         → Written rows on word (set keys k v) (k + 1)
-    written-more {v} up room e =
+    written-more {v} up e =
+        let inside : k < length keys = omega (arith, h .room) in
         record {
           few = omega arith;
+          room = simp length-set (h .room);
           each = λ j less.
-              ⊎-elim (λ (q : j ≡ k). rw (q, getD-set-same keys k v 0 room) e)
+              ⊎-elim (λ (q : j ≡ k). rw (q, getD-set-same keys k v 0 inside) e)
               (λ before. getD-set-other keys k j v 0 (λ q. omega arith) ∙ h .each j before) (eq-or-lt-of-le (omega arith));
         }
 

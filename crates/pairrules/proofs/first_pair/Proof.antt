@@ -4,8 +4,7 @@ use Prim.Native.Nat.{_-_}
 use native.Mathlib.Omega.{arith}
 use borrow.Author.Needs.{needs}
 use Rattle.search.specs.declared.Found.the-variants.{Nothing}
-use Rattle.visits.proofs.Reading.{row-room}
-use Rattle.pairrules.proofs.Search.{StacksPassed, PartnersPassed, numbered-within, first-within, partner-within, stacks-start, stacks-more, partners-start, partners-more}
+use Rattle.pairrules.proofs.Search.{StacksPassed, PartnersPassed, numbered-within, within, stacks-start, stacks-more, partners-start, partners-more}
 use Rattle.pairrules.proofs.Search.{pair-found, pair-none}
 use Rattle.pairrules.proofs.first_pair.Statement.{statement}
 use Rattle.pairrules.proofs.first_pair.Tie as tie
@@ -28,7 +27,10 @@ stack-count-requires : tie.Need-stack-count-requires Inv-loop μ-loop Inv-search
 stack-count-requires c κs = search needs
 
 search-holds : tie.Need-search-holds Inv-loop μ-loop Inv-search μ-search
-search-holds c = let start = c .before .before .before .before in (stacks-start (start .pre .0) (start .pre .1), refl)
+search-holds c =
+    let counted = c .before in
+    let start = counted .before .before .before in
+    (stacks-start (start .pre .0) (start .pre .1), refl)
 
 mul-as-index : tie.Need-mul-as-index Inv-loop μ-loop Inv-search μ-search
 mul-as-index c = search needs
@@ -62,18 +64,20 @@ loop-holds c =
 pair-kept-requires : tie.Need-pair-kept-requires Inv-loop μ-loop Inv-search μ-search
 pair-kept-requires c κs =
     let inner = c .before .loop .inv in
-    (inner .0 .held, first-within (inner .0) (inner .1), partner-within (inner .0) (inner .1) (c .loop-test .taken))
+    let both = within (inner .0) (inner .1) (c .loop-test .taken) in
+    (inner .0 .held, omega (arith, both), omega (arith, both))
 
 row-word-requires : tie.Need-row-word-requires Inv-loop μ-loop Inv-search μ-search
 row-word-requires c κs =
-    let inner = c .before .before .before .loop .inv in
-    (row-room (inner .0 .held) _ (first-within (inner .0) (inner .1)), omega arith)
+    let test = c .before .before in
+    let inner = test .before .loop .inv in
+    (omega (arith, within (inner .0) (inner .1) (test .loop-test .taken), inner .0 .held .room), omega arith)
 
 row-word-requires-2 : tie.Need-row-word-requires-2 Inv-loop μ-loop Inv-search μ-search
 row-word-requires-2 c κs =
     let test = c .before .before .before in
     let inner = test .before .loop .inv in
-    (row-room (inner .0 .held) _ (partner-within (inner .0) (inner .1) (test .loop-test .taken)), omega arith)
+    (omega (arith, within (inner .0) (inner .1) (test .loop-test .taken), inner .0 .held .room), omega arith)
 
 add-b : tie.Need-add-b Inv-loop μ-loop Inv-search μ-search
 add-b c = search needs

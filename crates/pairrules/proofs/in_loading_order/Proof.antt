@@ -12,8 +12,9 @@ row-word-requires-2 c κs = search needs
 
 returns : tie.Need-returns
 returns c =
-    let args = c .before .before .before .before .args in
-    front-in-order (args .rows .now) (args .a) (args .b) (c .before .before .row-word .ensures) (c .before .row-word2 .ensures) (c .if1 .taken)
+    let read = c .before .before in
+    let args = read .before .before .args in
+    front-in-order (args .rows .now) (args .a) (args .b) (read .row-word .ensures) (c .before .row-word2 .ensures) (c .if1 .taken)
 
 rank-at-requires : tie.Need-rank-at-requires
 rank-at-requires c κs = search needs
@@ -27,8 +28,9 @@ loads-before-requires c κs = search needs
 returns-2 : tie.Need-returns-2
 returns-2 c =
     let asked = c .before .before .before in
-    let args = asked .before .before .before .before .args in
-    behind-in-order (args .rows .now) (args .a) (args .b) (asked .before .before .row-word .ensures) (asked .before .row-word2 .ensures) (asked .if1 .left)
+    let read = asked .before .before in
+    let args = read .before .before .args in
+    behind-in-order (args .rows .now) (args .a) (args .b) (read .row-word .ensures) (asked .before .row-word2 .ensures) (asked .if1 .left)
     (c .before .before .rank-at .ensures) (c .before .rank-at2 .ensures) (c .loads-before .ensures)
 
 pub in-loading-order-spec : {M : Type 1} → statement M

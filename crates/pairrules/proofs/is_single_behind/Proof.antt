@@ -25,15 +25,16 @@ row-word-requires c κs = search needs
 
 returns : tie.Need-returns Inv-loop μ-loop
 returns c =
-    let start = c .before .before .before .before in
-    let docks = c .before .row-word .ensures ∙ docks-are (start .pre .0) _ (omega (arith, start .pre .1, start .pre .2)) in
+    let read = c .before in
+    let start = read .before .before .before in
+    let docks = read .row-word .ensures ∙ docks-are (start .pre .0) _ (omega (arith, start .pre .1, start .pre .2)) in
     ((λ e b from up. sym (first-not-two _ _ _ docks (c .if1 .taken))), (λ each. refl))
 
 add-b : tie.Need-add-b Inv-loop μ-loop
 add-b c = search needs
 
 loop-holds : tie.Need-loop-holds Inv-loop μ-loop
-loop-holds c = upto-start (omega (arith, c .before .before .before .before .pre))
+loop-holds c = let read = c .before in upto-start (omega (arith, read .before .before .before .pre))
 
 is-single-pair-requires : tie.Need-is-single-pair-requires Inv-loop μ-loop
 is-single-pair-requires c κs = search needs

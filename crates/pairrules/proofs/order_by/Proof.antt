@@ -1,7 +1,6 @@
 -- `pairrules::order_by`: the words of the rows before the k-th are written as keys, and the places are sorted by them.
 use mathlib.Core.Path.{_≡_, refl}
 use Prim.Native.Nat.{_-_}
-use native.Mathlib.Omega.{arith}
 use borrow.Author.Needs.{needs}
 use lib.ListN.{length, length-set}
 use Rattle.pairrules.proofs.Sorted.{Written, written-none, written-more, sorted-by}
@@ -18,7 +17,7 @@ sub-count : tie.Need-sub-count Inv-loop μ-loop
 sub-count c = search needs
 
 loop-holds : tie.Need-loop-holds Inv-loop μ-loop
-loop-holds c = (written-none, refl)
+loop-holds c = (written-none (search needs), refl)
 
 add-row-word : tie.Need-add-row-word Inv-loop μ-loop
 add-row-word c = search needs
@@ -43,11 +42,9 @@ loop-less c = search needs
 
 loop-again : tie.Need-loop-again Inv-loop μ-loop
 loop-again c =
-    let loop = c .before .before .before in
-    let start = loop .before .before .before .before .before in (
-      written-more (loop .loop .inv .0) (c .before .before .loop-test .taken) (omega (arith, start .pre, loop .loop .inv .1)) (c .row-word .ensures),
-      simp length-set (loop .loop .inv .1),
-    )
+    let test = c .before .before in
+    let passed = test .before .loop .inv in
+    (written-more (passed .0) (test .loop-test .taken) (c .row-word .ensures), simp length-set (passed .1))
 
 sort-requires : tie.Need-sort-requires Inv-loop μ-loop
 sort-requires c κs = search needs
@@ -62,10 +59,8 @@ returns : tie.Need-returns Inv-loop μ-loop
 returns c =
     let sorted = c .before .before in
     let done = sorted .before .before .before in
-    let start = done .before .before .before .before .before .before in (
-      sorted-by (done .before .loop .inv .0) (done .loop-test .left) (omega (arith, start .pre, sorted .sort .ensures .1)) (sorted .sort .ensures .0),
-      (done .before .loop .inv .1, sorted .sort .ensures .1),
-    )
+    let passed = done .before .loop .inv in
+    (sorted-by (passed .0) (done .loop-test .left) (search needs) (sorted .sort .ensures .0), (passed .1, sorted .sort .ensures .1))
 
 pub order-by-spec : {M : Type 1} → statement M
 order-by-spec =

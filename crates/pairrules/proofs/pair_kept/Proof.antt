@@ -35,14 +35,16 @@ returns c = rw (c .before .enum-told .given .1) (c .is-single-pair .ensures)
 returns-2 : tie.Need-returns-2
 returns-2 c =
     let told = c .before .before .before in
-    let pre = told .before .before .before .before .pre in
+    let start = told .before .before .before .before in
+    let pre = start .pre in
     rw (told .enum-told2 .given .1)
     (c .disjoint .ensures ∙ rw (c .before .before .footprint-at .ensures, c .before .footprint-at2 .ensures) (disjoint-is (pre .0) _ _ (pre .1) (pre .2)))
 
 returns-3 : tie.Need-returns-3
 returns-3 c =
     let told = c .before in
-    let pre = told .before .before .before .before .pre in
+    let start = told .before .before .before .before in
+    let pre = start .pre in
     rw (told .enum-told3 .given .1) (c .in-loading-order .ensures ∙ order-is (pre .0) _ _ (pre .1) (pre .2))
 
 pub pair-kept-spec : {M : Type 1} → statement M

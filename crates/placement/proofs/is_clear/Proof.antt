@@ -41,7 +41,8 @@ disjoint-requires c κs = search needs
 returns-2 : tie.Need-returns-2 Inv-loop μ-loop
 returns-2 c =
     let asked = c .before in
-    let read = asked .before .before .before .before in
+    let compared = asked .before in
+    let read = compared .before .before .before in
     let test = read .before in
     clear-broken (test .before .loop .inv) (test .loop-test .taken) (read .footprint-along2 .ensures) (asked .disjoint .ensures) (c .if2 .taken)
 
@@ -54,7 +55,8 @@ loop-less c = search needs
 loop-again : tie.Need-loop-again Inv-loop μ-loop
 loop-again c =
     let asked = c .before in
-    let read = asked .before .before .before .before in
+    let compared = asked .before in
+    let read = compared .before .before .before in
     let test = read .before in
     clear-more (test .before .loop .inv) (test .loop-test .taken) (read .footprint-along2 .ensures) (asked .disjoint .ensures) (c .if2 .left)
 

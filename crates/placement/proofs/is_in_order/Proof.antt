@@ -1,5 +1,6 @@
 -- `placement::is_in_order`: every stack before it along the trailer is asked.
 use Prim.Native.Nat.{_-_}
+use native.Mathlib.Omega.{arith}
 use borrow.Author.Needs.{needs}
 use Rattle.placement.proofs.Trailer.{InOrderUpto, in-order-start, in-order-all, both-room, in-order-broken, in-order-more}
 use Rattle.placement.proofs.is_in_order.Statement.{statement}
@@ -21,7 +22,10 @@ place-along-requires-2 : tie.Need-place-along-requires-2 Inv-loop μ-loop
 place-along-requires-2 c κs = search needs
 
 in-loading-order-requires : tie.Need-in-loading-order-requires Inv-loop μ-loop
-in-loading-order-requires c κs = let test = c .before in both-room (test .before .loop .inv) (test .loop-test .taken) (c .place-along2 .ensures)
+in-loading-order-requires c κs =
+    let test = c .before in
+    let both = both-room (test .before .loop .inv) (test .loop-test .taken) (c .place-along2 .ensures) in
+    (omega (arith, both), omega (arith, both))
 
 returns : tie.Need-returns Inv-loop μ-loop
 returns c =

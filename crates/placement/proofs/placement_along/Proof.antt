@@ -46,12 +46,14 @@ lower-of-requires c κs = search needs
 
 is-clear-requires : tie.Need-is-clear-requires Inv-loop μ-loop
 is-clear-requires c κs =
-    let test = c .before .before .before .before .before in
+    let braced = c .before .before in
+    let test = braced .before .before .before in
     (test .before .loop .inv .held, next-inside (test .before .loop .inv) (test .loop-test .taken))
 
 is-in-order-requires : tie.Need-is-in-order-requires Inv-loop μ-loop
 is-in-order-requires c κs =
-    let test = c .before .before .before .before .before .before in
+    let braced = c .before .before .before in
+    let test = braced .before .before .before in
     (test .before .loop .inv .held, next-inside (test .before .loop .inv) (test .loop-test .taken))
 
 loop-less : tie.Need-loop-less Inv-loop μ-loop
