@@ -1,4 +1,7 @@
-pub mod Blocks
+pub mod Places
+pub mod Sorted
 pub mod Ranks
+pub mod Reading
 pub mod Pairs
-pub mod Unbraced
+pub mod Partners
+pub mod Search

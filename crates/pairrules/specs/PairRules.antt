@@ -1,20 +1,19 @@
--- The rules on two stacks of one used truck, by the names that the code has for them, and their tests on what the rows keep of a stack.
+-- The tests of the rules on two stacks on what the rows keep of a stack, and the places of the rows that are asked.
+use mathlib.Core.Path.{_≡_}
 use mathlib.Core.Bool.{Bool, not, _&&_, _||_}
-use Prim.Native.Nat.{ℕ, _+_}
+use mathlib.Core.List.{List}
+use Prim.Native.Nat.{ℕ, _+_, _-_, _≤_, _<_}
 use lib.Dec.{leb, ltb, eqb}
-use Rattle.meaning.specs.Model.{Instance, Stack}
-use Rattle.meaning.specs.Rules.{singlePair, disjoint, inLoadingOrder}
+use lib.ListN.{length, getD, take}
+use Rattle.meaning.specs.Lists.{upFrom}
 use Rattle.views.specs.declared.Footprint.{Footprint}
 use Rattle.views.specs.declared.Rank.{Rank}
-use Rattle.pairrules.specs.declared.PairRule.{PairRule}
-use Rattle.pairrules.specs.declared.PairRule.the-variants.{SecondPair, Overlap, Order}
+use Rattle.visits.specs.declared.Block.{Block}
+use Rattle.visits.specs.Visits.{sortBy, rowWord, footprintAt, rankAt, RunBefore, RunBehind}
+use Rattle.rules.specs.declared.PairRule.{PairRule}
+use Rattle.rules.specs.declared.PairRule.the-variants.{SecondPair, Overlap, Order}
 
--- when a rule on two stacks is kept: 17 second pair, 23 overlap, 25 order
-abbrev pub pairTest : PairRule → Instance → Stack → Stack → Bool
-pairTest SecondPair i s r = singlePair i s r
-pairTest Overlap i s r = disjoint i s r
-pairTest Order i s r = inLoadingOrder i s r
-
+-- ---- the tests
 -- P2 on the ground that two stacks take
 abbrev pub disjointFootprints : Footprint → Footprint → Bool
 disjointFootprints a b = leb (a .xe) (b .x) || leb (b .xe) (a .x) || leb (a .ye) (b .y) || leb (b .ye) (a .y)
@@ -29,9 +28,50 @@ ranksBefore a b =
     ltb (a .«supplier_order») (b .«supplier_order») || (eqb (a .supplier) (b .supplier) && ltb (a .«dock_order») (b .«dock_order»))
     || (eqb (a .supplier) (b .supplier) && eqb (a .dock) (b .dock) && leb (a .highest) (b .lowest) && not (leb (b .highest) (a .lowest)))
 
--- where the partners begin that the stack at place a is compared with: a rule that is the same in both orders has been asked of a and the
--- stacks before it already
-abbrev pub partnersFrom : PairRule → ℕ → ℕ → ℕ
-partnersFrom SecondPair start a = a + 1
-partnersFrom Overlap start a = a + 1
-partnersFrom Order start a = start
+-- the same of the stacks at two places of the rows
+abbrev pub disjointAt : List ℕ → ℕ → ℕ → Bool
+disjointAt rows a b = disjointFootprints (footprintAt rows a) (footprintAt rows b)
+
+abbrev pub inContactAt : List ℕ → ℕ → ℕ → Bool
+inContactAt rows a b = footprintsInContact (footprintAt rows a) (footprintAt rows b)
+
+abbrev pub inOrderAt : List ℕ → ℕ → ℕ → Bool
+inOrderAt rows a b = not (ranksBefore (rankAt rows a) (rankAt rows b)) || leb (rowWord rows a 4) (rowWord rows b 4)
+
+-- ---- places of the rows
+-- a place from `start` up to `end`
+abbrev pub Inside : ℕ → ℕ → ℕ → Type 0
+Inside start end k = (start ≤ k) × (k < end)
+
+-- what holds of each of these places
+abbrev pub Each : (ℕ → Type 0) → ℕ → ℕ → Type 0
+Each P start end = (k : ℕ) → start ≤ k → k < end → P k
+
+-- and of each two of them
+abbrev pub EachTwo : (ℕ → ℕ → Type 0) → ℕ → ℕ → Type 0
+EachTwo P start end = (j k : ℕ) → Inside start end j → Inside start end k → (j ≡ k → ⊥) → P j k
+
+-- `order` has the places of a block, counted from its start, by ascending word of their rows
+pub record SortedRows (rows : List ℕ) (on : Block) (word : ℕ) (order : List ℕ) : Type 0 where
+  pub room : on .end - on .start ≤ length order
+  pub is : take (on .end - on .start) order ≡ sortBy (λ k. rowWord rows (on .start + k) word) (upFrom 0 (on .end - on .start))
+
+-- the k-th place in this order
+abbrev pub placeAt : Block → List ℕ → ℕ → ℕ
+placeAt on order k = on .start + getD order k 0
+
+-- all stacks of the rows
+abbrev pub wholePlan : ℕ → Block
+wholePlan count = record { start = 0; end = count }
+
+-- where the partners begin that the stack at place a is asked with: for a rule that is the same in both orders behind it, else where its
+-- used truck begins
+abbrev pub PartnersFrom : PairRule → List ℕ → ℕ → ℕ → Type 0
+PartnersFrom SecondPair rows a from = from ≡ a + 1
+PartnersFrom Overlap rows a from = from ≡ a + 1
+PartnersFrom Order rows a from = RunBefore rows from (a + 1)
+
+-- and all of them, among the first `count` stacks
+pub record PartnersOf (rule : PairRule) (rows : List ℕ) (a count : ℕ) (on : Block) : Type 0 where
+  pub from : PartnersFrom rule rows a (on .start)
+  pub upto : RunBehind rows a (on .end) count

@@ -1,32 +1,37 @@
-// The rules on two stacks of one used truck: 17 second pair, 23 overlap, 24 unbraced, 25 order. Each function looks at the stacks of one
-// used truck, which are visited together, from place `start` up to `end`.
+// The rules on two stacks of one used truck: 17 second pair, 23 overlap, 25 order; and the contact of two stacks, by which 24 is told. The
+// rows hold the stacks of a used truck together, by ascending number.
 ghost use mathlib.Core.Path.{_≡_};
-ghost use Prim.Native.Nat.{_≤_, _<_};
+ghost use mathlib.Core.Logic.{_↔_};
+ghost use mathlib.Core.Bool.{true};
+ghost use mathlib.Core.List.{[]};
+ghost use Prim.Native.Nat.{_+_, _-_, _*_, _≤_, _<_};
 ghost use lib.ListN.{length};
 ghost use Rattle.meaning.specs.Table.{instanceIn, stacksIn};
-ghost use Rattle.meaning.specs.Rules.{pairPlaces, stackPlaces, singlePair, inLoadingOrder, braced, noAmount};
+ghost use Rattle.meaning.specs.Rules.{pairPlaces, singlePair};
 ghost use Rattle.search.specs.Lowest.{lowestIn};
+ghost use Rattle.rules.specs.LoadingRules.{pairTest};
 ghost use Rattle.visits.specs.Visits.{visitAt, block, HoldsRows, OneTruck};
-ghost use Rattle.pairrules.specs.PairRules.{pairTest, disjointFootprints, footprintsInContact, ranksBefore, partnersFrom};
+ghost use Rattle.pairrules.specs.PairRules.{disjointFootprints, footprintsInContact, ranksBefore, inOrderAt};
+ghost use Rattle.pairrules.specs.PairRules.{Each, SortedRows, wholePlan, PartnersOf};
 use meaning::Limits;
 use meaning::Place;
+use rules::PairRule;
 use search::Found;
 use table::fields::IS;
+use table::stack_count;
 use views::Footprint;
 use views::Rank;
 use views::bottom_field;
+use visits::Block;
+use visits::as_index;
 use visits::footprint_at;
 use visits::rank_at;
 use visits::row;
 use visits::row_word;
+use visits::sort;
 use visits::stack_at;
-
-// The rules on two stacks.
-pub enum PairRule {
-    SecondPair, // 17
-    Overlap, // 23
-    Order, // 25
-}
+use visits::truck_end;
+use visits::truck_start;
 
 // ---- the tests
 
@@ -36,14 +41,14 @@ fn is_single_pair(t: &[u32], limits: Limits, rows: &[u32], a: usize, b: usize) -
     ensures { λ r. ⌜ r ≡ singlePair (instanceIn limits (now (t .entry))) (visitAt (stacksIn limits (now (t .entry))) a)
         (visitAt (stacksIn limits (now (t .entry))) b) ⌝ }
 {
-    if row_word(t, limits, rows, a, row::PLANT_DOCKS) != 2 {
+    if row_word(rows, a, row::PLANT_DOCKS) != 2 {
         return true;
     }
-    if row_word(t, limits, rows, b, row::PLANT_DOCKS) != 2 {
+    if row_word(rows, b, row::PLANT_DOCKS) != 2 {
         return true;
     }
-    let code = bottom_field(t, limits, stack_at(t, limits, rows, a), IS);
-    code != bottom_field(t, limits, stack_at(t, limits, rows, b), IS)
+    let code = bottom_field(t, limits, stack_at(rows, a), IS);
+    code != bottom_field(t, limits, stack_at(rows, b), IS)
 }
 
 // 23 overlap, P2: two stacks are disjoint along the trailer or across it.
@@ -51,6 +56,13 @@ pub fn disjoint(a: Footprint, b: Footprint) -> bool
     ensures { λ r. ⌜ r ≡ disjointFootprints a b ⌝ }
 {
     (((a.xe <= b.x) | (b.xe <= a.x)) | (a.ye <= b.y)) | (b.ye <= a.y)
+}
+
+// 24 unbraced, P3: whether the second stack ends where the first begins, in contact with it; a corner is enough.
+pub fn in_contact(a: Footprint, b: Footprint) -> bool
+    ensures { λ r. ⌜ r ≡ footprintsInContact a b ⌝ }
+{
+    ((b.xe == a.x) & (a.y <= b.ye)) & (b.y <= a.ye)
 }
 
 // 25 order, P4: the three cases in which the stack of the first rank must have x no greater than the other.
@@ -66,18 +78,17 @@ fn loads_before(a: Rank, b: Rank) -> bool
 }
 
 // 25 order, P4. The cheap comparison comes first: ranks are compared only where the first stack stands behind the second.
-pub fn in_loading_order(t: &[u32], limits: Limits, rows: &[u32], a: usize, b: usize) -> bool
-    requires { ⌜ HoldsRows limits (now t) (now rows) × (a < length (stacksIn limits (now t))) × (b < length (stacksIn limits (now t))) ⌝ }
-    ensures { λ r. ⌜ r ≡ inLoadingOrder (instanceIn limits (now (t .entry))) (visitAt (stacksIn limits (now (t .entry))) a)
-        (visitAt (stacksIn limits (now (t .entry))) b) ⌝ }
+pub fn in_loading_order(rows: &[u32], a: usize, b: usize) -> bool
+    requires { ⌜ (16 * a + 16 ≤ length (now rows)) × (16 * b + 16 ≤ length (now rows)) ⌝ }
+    ensures { λ r. ⌜ r ≡ inOrderAt (now (rows .entry)) a b ⌝ }
 {
-    if row_word(t, limits, rows, a, row::X) <= row_word(t, limits, rows, b, row::X) {
+    if row_word(rows, a, row::X) <= row_word(rows, b, row::X) {
         return true;
     }
-    !loads_before(rank_at(t, limits, rows, a), rank_at(t, limits, rows, b))
+    !loads_before(rank_at(rows, a), rank_at(rows, b))
 }
 
-// Whether two visited stacks keep a rule.
+// Whether the stacks at two places keep a rule.
 fn pair_kept(rule: PairRule, t: &[u32], limits: Limits, rows: &[u32], a: usize, b: usize) -> bool
     requires { ⌜ HoldsRows limits (now t) (now rows) × (a < length (stacksIn limits (now t))) × (b < length (stacksIn limits (now t))) ⌝ }
     ensures { λ r. ⌜ r ≡ pairTest rule (instanceIn limits (now (t .entry))) (visitAt (stacksIn limits (now (t .entry))) a)
@@ -85,107 +96,116 @@ fn pair_kept(rule: PairRule, t: &[u32], limits: Limits, rows: &[u32], a: usize, 
 {
     match rule {
         PairRule::SecondPair => is_single_pair(t, limits, rows, a, b),
-        PairRule::Overlap => disjoint(
-            footprint_at(t, limits, rows, a),
-            footprint_at(t, limits, rows, b),
-        ),
-        PairRule::Order => in_loading_order(t, limits, rows, a, b),
+        PairRule::Overlap => disjoint(footprint_at(rows, a), footprint_at(rows, b)),
+        PairRule::Order => in_loading_order(rows, a, b),
     }
 }
 
-// ---- the searches
+// ---- 17 on one used truck
 
-// Where the partners of the stack at place a begin. 17 and 23 are the same for two stacks in both orders, so of an earlier partner they have
-// been asked already. 25 is asked both ways; it holds of a stack with itself, so that pair need not be left out.
-fn partners_from(rule: PairRule, start: usize, a: usize) -> usize
-    requires { ⌜ a ≤ 16777216 ⌝ }
-    ensures { λ r. ⌜ r ≡ partnersFrom rule start a ⌝ }
+// Whether the stack at place a keeps 17 with each behind it, up to `end`. Most stacks do not have two plant docks: they keep it with any.
+fn is_single_behind(t: &[u32], limits: Limits, rows: &[u32], a: usize, end: usize) -> bool
+    requires { ⌜ HoldsRows limits (now t) (now rows) × (a < end) × (end ≤ length (stacksIn limits (now t))) ⌝ }
+    ensures { λ r. ⌜ (r ≡ true) ↔ Each (λ b. singlePair (instanceIn limits (now (t .entry))) (visitAt (stacksIn limits (now (t .entry))) a)
+        (visitAt (stacksIn limits (now (t .entry))) b) ≡ true) (a + 1) end ⌝ }
 {
+    if row_word(rows, a, row::PLANT_DOCKS) != 2 {
+        return true;
+    }
+    let mut b = a + 1;
+    while b < end {
+        if !is_single_pair(t, limits, rows, a, b) {
+            return false;
+        }
+        b += 1;
+    }
+    true
+}
+
+// Whether no two stacks of a used truck break 17.
+pub fn keeps_single_pair(t: &[u32], limits: Limits, rows: &[u32], on: Block) -> bool
+    requires { ⌜ HoldsRows limits (now t) (now rows) × OneTruck (stacksIn limits (now t)) (on .start) (on .end) ⌝ }
+    ensures { λ r. ⌜ (r ≡ true) ↔ (pairPlaces singlePair (instanceIn limits (now (t .entry)))
+        (block (stacksIn limits (now (t .entry))) (on .start) (on .end)) ≡ []) ⌝ }
+{
+    let end = on.end;
+    let mut a = on.start;
+    while a < end {
+        if !is_single_behind(t, limits, rows, a, end) {
+            return false;
+        }
+        a += 1;
+    }
+    true
+}
+
+// ---- the search over the whole plan
+
+// The places of a block by ascending word of their rows, counted from the block's start. The keys are scratch.
+pub fn order_by(rows: &[u32], on: Block, word: usize, keys: &mut [u64], order: &mut [u32])
+    requires { ⌜ (on .start ≤ on .end) × (16 * on .end ≤ length (now rows)) × (word < 16) × (on .end - on .start ≤ 16777216)
+        × (on .end - on .start ≤ length (now keys)) × (on .end - on .start ≤ length (now order)) ⌝ }
+    ensures sorted { λ _. ⌜ SortedRows (now (rows .entry)) on word (now (order .exit)) ⌝ }
+    ensures lengths { λ _. ⌜ (length (now (keys .exit)) ≡ length (now (keys .entry))) × (length (now (order .exit)) ≡ length (now (order .entry))) ⌝ }
+{
+    let count = on.end - on.start;
+    let mut k = 0;
+    while k < count {
+        keys[k] = row_word(rows, on.start + k, word) as u64;
+        k += 1;
+    }
+    sort(keys, order, count);
+}
+
+// The partners that the stack at place a is asked with. 17 and 23 are the same for two stacks in both orders, so of a partner before it they
+// have been asked already. 25 is asked both ways; it holds of a stack with itself, so that pair need not be left out.
+fn partners_of(rule: PairRule, rows: &[u32], a: usize, count: usize) -> Block
+    requires { ⌜ (a < count) × (16 * count ≤ length (now rows)) ⌝ }
+    ensures { λ r. ⌜ PartnersOf rule (now (rows .entry)) a count r ⌝ }
+{
+    let end = truck_end(rows, a, count);
     match rule {
-        PairRule::SecondPair => a + 1,
-        PairRule::Overlap => a + 1,
-        PairRule::Order => start,
+        PairRule::SecondPair => Block { start: a + 1, end },
+        PairRule::Overlap => Block { start: a + 1, end },
+        PairRule::Order => Block {
+            start: truck_start(rows, a + 1),
+            end,
+        },
     }
 }
 
-// The pair with the lowest first stack number, then the lowest second, that breaks a rule. Stacks are visited by ascending number, so the
-// first pair found is the lowest.
+// The pair with the lowest first stack number, then the lowest second, that breaks a rule. The stacks are taken by ascending number, and so
+// are the partners of each on its used truck, so the first pair found is the lowest.
 pub fn first_pair(
     rule: PairRule,
     t: &[u32],
     limits: Limits,
     rows: &[u32],
-    start: usize,
-    end: usize,
+    by_number: &[u32],
 ) -> Found
-    requires { ⌜ HoldsRows limits (now t) (now rows) × OneTruck (stacksIn limits (now t)) start end ⌝ }
-    ensures { λ r. ⌜ r ≡ lowestIn (pairPlaces (pairTest rule) (instanceIn limits (now (t .entry)))
-        (block (stacksIn limits (now (t .entry))) start end)) ⌝ }
+    requires { ⌜ HoldsRows limits (now t) (now rows) × SortedRows (now rows) (wholePlan (length (stacksIn limits (now t)))) 1 (now «by_number») ⌝ }
+    ensures { λ r. ⌜ r ≡ lowestIn (pairPlaces (pairTest rule) (instanceIn limits (now (t .entry))) (stacksIn limits (now (t .entry)))) ⌝ }
 {
+    let count = stack_count(t, limits);
     let mut found = Found::Nothing;
-    let mut a = start;
-    'search: while a < end {
-        let mut b = partners_from(rule, start, a);
+    let mut k = 0;
+    'search: while k < count {
+        let a = as_index(by_number[k]);
+        let partners = partners_of(rule, rows, a, count);
+        let end = partners.end;
+        let mut b = partners.start;
         while b < end {
             if !pair_kept(rule, t, limits, rows, a, b) {
                 found = Found::At(Place {
-                    first: row_word(t, limits, rows, a, row::NUMBER),
-                    second: row_word(t, limits, rows, b, row::NUMBER),
+                    first: row_word(rows, a, row::NUMBER),
+                    second: row_word(rows, b, row::NUMBER),
                     third: 0,
                 });
                 break 'search;
             }
             b += 1;
         }
-        a += 1;
+        k += 1;
     }
     found
-}
-
-// 24 unbraced, P3: whether the second stack ends where the first begins, in contact with it; a corner is enough.
-pub fn in_contact(a: Footprint, b: Footprint) -> bool
-    ensures { λ r. ⌜ r ≡ footprintsInContact a b ⌝ }
-{
-    ((b.xe == a.x) & (a.y <= b.ye)) & (b.y <= a.ye)
-}
-
-// Whether the stack at place k stands at the front wall or is braced by another one.
-fn is_braced(t: &[u32], limits: Limits, rows: &[u32], start: usize, end: usize, k: usize) -> bool
-    requires { ⌜ HoldsRows limits (now t) (now rows) × OneTruck (stacksIn limits (now t)) start end × (start ≤ k) × (k < end) ⌝ }
-    ensures { λ r. ⌜ r ≡ braced (instanceIn limits (now (t .entry))) (block (stacksIn limits (now (t .entry))) start end)
-        (visitAt (stacksIn limits (now (t .entry))) k) ⌝ }
-{
-    let ground = footprint_at(t, limits, rows, k);
-    if ground.x == 0 {
-        return true;
-    }
-    let mut b = start;
-    while b < end {
-        let touched = in_contact(ground, footprint_at(t, limits, rows, b));
-        if (b != k) & touched {
-            return true;
-        }
-        b += 1;
-    }
-    false
-}
-
-// 24 unbraced, P3: the stack with the lowest number that is not braced.
-pub fn first_unbraced(t: &[u32], limits: Limits, rows: &[u32], start: usize, end: usize) -> Found
-    requires { ⌜ HoldsRows limits (now t) (now rows) × OneTruck (stacksIn limits (now t)) start end ⌝ }
-    ensures { λ r. ⌜ r ≡ lowestIn (stackPlaces braced noAmount (instanceIn limits (now (t .entry)))
-        (block (stacksIn limits (now (t .entry))) start end)) ⌝ }
-{
-    let mut a = start;
-    while a < end {
-        if !is_braced(t, limits, rows, start, end, a) {
-            return Found::At(Place {
-                first: row_word(t, limits, rows, a, row::NUMBER),
-                second: 0,
-                third: 0,
-            });
-        }
-        a += 1;
-    }
-    Found::Nothing
 }

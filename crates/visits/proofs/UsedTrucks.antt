@@ -28,7 +28,7 @@ use Rattle.visits.proofs.Order.{order-within, order-rising, visited-len
 -- ---- places of a list
 module _ {A : Type 0} (d : A) where
   -- where no element stands twice, two places have different elements
-  noRepeat-at : (l : List A) → NoRepeat l → (j k : ℕ) → j < k → k < length l → getD l j d ≡ getD l k d → ⊥
+  pub noRepeat-at : (l : List A) → NoRepeat l → (j k : ℕ) → j < k → k < length l → getD l j d ≡ getD l k d → ⊥
   noRepeat-at [] h j k less inside e = omega arith
   noRepeat-at (a ∷ l) h j zero less inside e = omega arith
   noRepeat-at (a ∷ l) h zero (suc k) less inside e = h .0 (subst (λ (b : A). In b l) (sym e) (at-in l d k (omega arith)))

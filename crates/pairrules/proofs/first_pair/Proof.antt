@@ -1,47 +1,83 @@
--- `pairrules::first_pair`: stacks are visited by ascending number, so the first broken pair is the lowest; what it does not ask it has asked before.
+-- `pairrules::first_pair`: the stacks and their partners are taken by ascending number, so the first broken pair is the lowest; what is not asked has been.
 use mathlib.Core.Path.{_≡_, refl, _∙_}
 use Prim.Native.Nat.{_-_}
 use native.Mathlib.Omega.{arith}
 use borrow.Author.Needs.{needs}
-use Rattle.meaning.specs.Table.{instanceIn, stacksIn}
 use Rattle.search.specs.declared.Found.the-variants.{Nothing}
-use Rattle.pairrules.proofs.Pairs.{RowsClear, RowClear, rows-start, row-start, row-more, rows-more, pair-found, pair-none}
+use Rattle.pairrules.proofs.Search.{StacksPassed, PartnersPassed, numbered-within, within, stacks-start, stacks-more, partners-start, partners-more}
+use Rattle.pairrules.proofs.Search.{pair-found, pair-none}
 use Rattle.pairrules.proofs.first_pair.Statement.{statement}
 use Rattle.pairrules.proofs.first_pair.Tie as tie
 
 abbrev Inv-loop : tie.InvT-loop
-Inv-loop rule t limits rows start end found₀ a b₀ found b = RowClear rule (instanceIn limits t) (stacksIn limits t) start end a b × (found ≡ Nothing)
+Inv-loop rule t limits rows by-number count found₀ k a end start found b =
+    StacksPassed rule limits t rows by-number k
+    × PartnersPassed rule limits t rows by-number k a start end b × (found ≡ Nothing)
 
 abbrev μ-loop : tie.MeasureT-loop
-μ-loop rule t limits rows start end found₀ a b₀ found b = end - b
+μ-loop rule t limits rows by-number count found₀ k a end start found b = end - b
 
 abbrev Inv-search : tie.InvT-search
-Inv-search rule t limits rows start end found₀ a₀ found a = RowsClear rule (instanceIn limits t) (stacksIn limits t) start end a × (found ≡ Nothing)
+Inv-search rule t limits rows by-number count found₀ k₀ found k = StacksPassed rule limits t rows by-number k × (found ≡ Nothing)
 
 abbrev μ-search : tie.MeasureT-search
-μ-search rule t limits rows start end found₀ a₀ found a = end - a
+μ-search rule t limits rows by-number count found₀ k₀ found k = count - k
+
+stack-count-requires : tie.Need-stack-count-requires Inv-loop μ-loop Inv-search μ-search
+stack-count-requires c κs = search needs
 
 search-holds : tie.Need-search-holds Inv-loop μ-loop Inv-search μ-search
-search-holds c = (rows-start (c .before .before .pre .1 .some), refl)
+search-holds c =
+    let counted = c .before in
+    let start = counted .before .before .before in
+    (stacks-start (start .pre .0) (start .pre .1), refl)
 
-partners-from-requires : tie.Need-partners-from-requires Inv-loop μ-loop Inv-search μ-search
-partners-from-requires c κs =
-    let p = c .before .before .before .before .pre in
-    omega (arith, p .0 .filled .range .stackCount, p .0 .filled .bounded .words, p .1 .within)
+mul-as-index : tie.Need-mul-as-index Inv-loop μ-loop Inv-search μ-search
+mul-as-index c = search needs
+
+shared-slice-read-as-index :
+    tie.Need-shared-slice-read-as-index Inv-loop μ-loop Inv-search μ-search
+shared-slice-read-as-index c = search needs
+
+as-index-requires : tie.Need-as-index-requires Inv-loop μ-loop Inv-search μ-search
+as-index-requires c κs = search needs
+
+partners-of-requires : tie.Need-partners-of-requires Inv-loop μ-loop Inv-search μ-search
+partners-of-requires c κs =
+    let outer = c .before .before .before in
+    let counted = outer .before .stack-count .ensures in
+    let rows = outer .search .inv .0 in
+    let within = numbered-within rows (outer .search .k) (omega (arith, counted, c .before .before .search-test .taken)) in
+    (omega (arith, counted, within, c .as-index .ensures), omega (arith, counted, rows .held .room))
 
 loop-holds : tie.Need-loop-holds Inv-loop μ-loop Inv-search μ-search
 loop-holds c =
-    let o = c .before .before in
-    (row-start (o .search .inv .0) (c .before .search-test .taken) (c .partners-from .ensures), o .search .inv .1)
+    let found = c .before in
+    let outer = found .before .before .before in
+    let counted = outer .before in (
+      outer .search .inv .0,
+      partners-start (outer .search .inv .0) (counted .stack-count .ensures .0) (found .before .before .search-test .taken) (found .as-index .ensures .0)
+          (c .partners-of .ensures),
+      outer .search .inv .1,
+    )
 
 pair-kept-requires : tie.Need-pair-kept-requires Inv-loop μ-loop Inv-search μ-search
-pair-kept-requires c κs = search needs
+pair-kept-requires c κs =
+    let inner = c .before .loop .inv in
+    let both = within (inner .0) (inner .1) (c .loop-test .taken) in
+    (inner .0 .held, omega (arith, both), omega (arith, both))
 
 row-word-requires : tie.Need-row-word-requires Inv-loop μ-loop Inv-search μ-search
-row-word-requires c κs = search needs
+row-word-requires c κs =
+    let test = c .before .before in
+    let inner = test .before .loop .inv in
+    (omega (arith, within (inner .0) (inner .1) (test .loop-test .taken), inner .0 .held .room), omega arith)
 
 row-word-requires-2 : tie.Need-row-word-requires-2 Inv-loop μ-loop Inv-search μ-search
-row-word-requires-2 c κs = search needs
+row-word-requires-2 c κs =
+    let test = c .before .before .before in
+    let inner = test .before .loop .inv in
+    (omega (arith, within (inner .0) (inner .1) (test .loop-test .taken), inner .0 .held .room), omega arith)
 
 add-b : tie.Need-add-b Inv-loop μ-loop Inv-search μ-search
 add-b c = search needs
@@ -51,35 +87,31 @@ loop-less c = search needs
 
 loop-again : tie.Need-loop-again Inv-loop μ-loop Inv-search μ-search
 loop-again c =
-    let l = c .before .before .before in
-    let o = l .before .before .before in
-    (row-more (o .search .inv .0) (l .loop .inv .0) (c .before .before .loop-test .taken) (c .before .pair-kept .ensures) (c .if1 .left), l .loop .inv .1)
+    let asked = c .before in
+    let inner = asked .before .before .loop .inv in
+    (inner .0, partners-more (inner .0) (inner .1) (asked .before .loop-test .taken) (asked .pair-kept .ensures) (c .if1 .left), inner .2)
 
-add-a : tie.Need-add-a Inv-loop μ-loop Inv-search μ-search
-add-a c = search needs
+add-k : tie.Need-add-k Inv-loop μ-loop Inv-search μ-search
+add-k c = search needs
 
 search-less : tie.Need-search-less Inv-loop μ-loop Inv-search μ-search
 search-less c = search needs
 
 search-again : tie.Need-search-again Inv-loop μ-loop Inv-search μ-search
-search-again c =
-    let l = c .before in
-    let o = l .before .before .before in
-    (rows-more (o .search .inv .0) (l .loop .inv .0) (l .before .before .search-test .taken) (c .loop-test .left), l .loop .inv .1)
+search-again c = let inner = c .before .loop .inv in (stacks-more (inner .0) (inner .1) (c .loop-test .left), inner .2)
 
 returns : tie.Need-returns Inv-loop μ-loop Inv-search μ-search
 returns c =
-    let o = c .before in
-    o .search .inv .1 ∙ pair-none (o .search .inv .0) (o .before .before .before .pre .1) (c .search-test .left)
+    let outer = c .before in
+    outer .search .inv .1 ∙ pair-none (outer .search .inv .0) (omega (arith, outer .before .stack-count .ensures, c .search-test .left))
 
 returns-2 : tie.Need-returns-2 Inv-loop μ-loop Inv-search μ-search
 returns-2 c =
-    let l = c .before .before .before .before .before in
-    let o = l .before .before .before in
-    rw (c .before .row-word .ensures .0, c .row-word2 .ensures .0)
-    (pair-found (o .search .inv .0) (o .before .before .before .pre .1) (l .loop .inv .0)
-    (l .before .before .search-test .taken) (c .before .before .before .before .loop-test .taken)
-    (c .before .before .before .pair-kept .ensures) (c .before .before .if1 .taken))
+    let broken = c .before .before in
+    let asked = broken .before in
+    let inner = asked .before .before .loop .inv in
+    pair-found (inner .0) (inner .1) (asked .before .loop-test .taken) (asked .pair-kept .ensures) (broken .if1 .taken)
+    (c .before .row-word .ensures) (c .row-word2 .ensures)
 
 pub first-pair-spec : {M : Type 1} → statement M
 first-pair-spec =
@@ -89,8 +121,12 @@ first-pair-spec =
     μ-loop
     Inv-search
     μ-search
+    stack-count-requires
     search-holds
-    partners-from-requires
+    mul-as-index
+    shared-slice-read-as-index
+    as-index-requires
+    partners-of-requires
     loop-holds
     pair-kept-requires
     row-word-requires
@@ -98,7 +134,7 @@ first-pair-spec =
     add-b
     loop-less
     loop-again
-    add-a
+    add-k
     search-less
     search-again
     returns

@@ -1,6 +1,6 @@
 -- `pairrules::in_loading_order`: a stack with no greater x keeps the rule; behind the other it keeps it unless its rank comes before.
 use borrow.Author.Needs.{needs}
-use Rattle.pairrules.proofs.Ranks.{few-orders, front-kept, behind-kept}
+use Rattle.pairrules.proofs.Ranks.{front-in-order, behind-in-order}
 use Rattle.pairrules.proofs.in_loading_order.Statement.{statement}
 use Rattle.pairrules.proofs.in_loading_order.Tie as tie
 
@@ -11,7 +11,10 @@ row-word-requires-2 : tie.Need-row-word-requires-2
 row-word-requires-2 c κs = search needs
 
 returns : tie.Need-returns
-returns c = front-kept _ _ _ (c .before .before .row-word .ensures .0) (c .before .row-word2 .ensures .0) (c .if1 .taken)
+returns c =
+    let read = c .before .before in
+    let args = read .before .before .args in
+    front-in-order (args .rows .now) (args .a) (args .b) (read .row-word .ensures) (c .before .row-word2 .ensures) (c .if1 .taken)
 
 rank-at-requires : tie.Need-rank-at-requires
 rank-at-requires c κs = search needs
@@ -24,10 +27,10 @@ loads-before-requires c κs = search needs
 
 returns-2 : tie.Need-returns-2
 returns-2 c =
-    let o = c .before .before .before in
-    let p = o .before .before .before .before .before .pre in
-    behind-kept _ _ _ (o .before .before .row-word .ensures .0) (o .before .row-word2 .ensures .0) (o .if1 .left)
-    (few-orders (p .0 .filled) _ (p .1)) (few-orders (p .0 .filled) _ (p .2))
+    let asked = c .before .before .before in
+    let read = asked .before .before in
+    let args = read .before .before .args in
+    behind-in-order (args .rows .now) (args .a) (args .b) (read .row-word .ensures) (asked .before .row-word2 .ensures) (asked .if1 .left)
     (c .before .before .rank-at .ensures) (c .before .rank-at2 .ensures) (c .loads-before .ensures)
 
 pub in-loading-order-spec : {M : Type 1} → statement M

@@ -4,12 +4,18 @@ use Rattle.pairrules.proofs.loads_before.Statement.{statement}
 use Rattle.pairrules.proofs.loads_before.Tie as tie
 
 returns : tie.Need-returns
-returns c = other-supplier (c .before .before .before .before .before .args .a) (c .before .before .before .before .before .args .b) (c .if1 .taken)
+returns c =
+    let earlier = c .before .before .before in
+    let args = earlier .before .before .args in
+    other-supplier (args .a) (args .b) (c .if1 .taken)
 
 returns-2 : tie.Need-returns-2
 returns-2 c =
-    let o = c .before .before .before .before .before .before .before .before in
-    one-supplier (o .before .before .before .before .before .args .a) (o .before .before .before .before .before .args .b) (o .if1 .left)
+    let docks = c .before .before .before .before in
+    let one = docks .before .before .before .before in
+    let earlier = one .before .before .before in
+    let args = earlier .before .before .args in
+    one-supplier (args .a) (args .b) (one .if1 .left)
 
 pub loads-before-spec : {M : Type 1} → statement M
 loads-before-spec = tie.close (tie.spec returns returns-2)

@@ -1,6 +1,7 @@
 -- `pairrules::pair_kept`: each rule is a case of the definition, and its test is the model's.
-use mathlib.Core.Path.{refl, _∙_}
+use mathlib.Core.Path.{_∙_}
 use borrow.Author.Needs.{needs}
+use Rattle.pairrules.proofs.Reading.{disjoint-is, order-is}
 use Rattle.pairrules.proofs.pair_kept.Statement.{statement}
 use Rattle.pairrules.proofs.pair_kept.Tie as tie
 
@@ -32,11 +33,19 @@ returns : tie.Need-returns
 returns c = rw (c .before .enum-told .given .1) (c .is-single-pair .ensures)
 
 returns-2 : tie.Need-returns-2
-returns-2 c = rw (c .before .before .before .enum-told2 .given .1)
-    (c .disjoint .ensures ∙ rw (c .before .before .footprint-at .ensures, c .before .footprint-at2 .ensures) refl)
+returns-2 c =
+    let told = c .before .before .before in
+    let start = told .before .before .before .before in
+    let pre = start .pre in
+    rw (told .enum-told2 .given .1)
+    (c .disjoint .ensures ∙ rw (c .before .before .footprint-at .ensures, c .before .footprint-at2 .ensures) (disjoint-is (pre .0) _ _ (pre .1) (pre .2)))
 
 returns-3 : tie.Need-returns-3
-returns-3 c = rw (c .before .enum-told3 .given .1) (c .in-loading-order .ensures)
+returns-3 c =
+    let told = c .before in
+    let start = told .before .before .before .before in
+    let pre = start .pre in
+    rw (told .enum-told3 .given .1) (c .in-loading-order .ensures ∙ order-is (pre .0) _ _ (pre .1) (pre .2))
 
 pub pair-kept-spec : {M : Type 1} → statement M
 pair-kept-spec =

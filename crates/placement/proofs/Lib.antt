@@ -1,0 +1,3 @@
+pub mod Trailer
+pub mod Walk
+pub mod Placing
