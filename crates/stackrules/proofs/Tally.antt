@@ -17,7 +17,7 @@ use Rattle.meaning.specs.Rules.{timesLoaded, notOnce}
 use Rattle.meaning.specs.Table.{loadEntries, instanceIn, stacksIn}
 use Rattle.meaning.proofs.Lists.{drop-next, drop-back, flatMap-agree, in-upFrom, length-upFrom, upFrom-at}
 use Rattle.meaning.proofs.Sums.{sum-below, sum-drop, filter-most}
-use Rattle.table.specs.Filled.{Filled, LoadInRange, noStack, stackAt}
+use Rattle.table.specs.Filled.{Filled, LoadOfItems, noStack, stackAt}
 use Rattle.table.proofs.Access.{entries-length, few-entries}
 use Rattle.search.specs.Lowest.{lowestIn, lowerFound}
 use Rattle.search.specs.declared.Found.{Found}
@@ -118,7 +118,7 @@ module _ {items : ℕ} where
       }
 
 -- in a filled table there are at most 65,536 load entries, so no count is higher
-pub countable : {m : Limits} {t times load : List ℕ} (s : ℕ) → Filled m t → LoadInRange (instanceIn m t) load
+pub countable : {m : Limits} {t times load : List ℕ} (s : ℕ) → Filled m t → LoadOfItems (instanceIn m t) load
     → Tally (length (instanceIn m t .items)) (drop s (stacksIn m t)) times → Countable load times
 countable {m} {t} {times} {load} s h range tally = record {
   entries = λ j inside. let n = range .entries j inside in (n .0, omega (arith, n .1, tally .room));
