@@ -1,7 +1,6 @@
 pub mod Follow
 pub mod Largest
 pub mod Keys
-pub mod Scan
 pub mod Storing
 pub mod Judging
 pub mod Number

@@ -1,7 +1,7 @@
 -- What an answer of a reading function says, as what the meaning's reader finds.
 use mathlib.Core.Path.{_≡_}
 use mathlib.Core.Bool.{Bool, true, false, cond}
-use mathlib.Core.List.{List, [], _∷_}
+use mathlib.Core.List.{List}
 use Prim.Native.Nat.{ℕ, suc, _+_, _≤_, _<_}
 use Prim.Native.String.{String}
 use lib.Dec.{ltb}
@@ -9,7 +9,6 @@ use lib.ListN.{length, take, drop}
 use Rattle.meaning.specs.Lists.{Every}
 use Rattle.meaning.specs.Text.{Form}
 use Rattle.meaning.specs.Reader.{Outcome, found, wrongForm, outOfRange, Reader}
-use Rattle.meaning.specs.Files.{Range, _to_}
 use Rattle.meaning.specs.Table.{largestWord}
 use Rattle.lines.specs.declared.Progress.{Progress}
 use Rattle.lines.specs.declared.Progress.the-variants.{Next, WrongForm, OutOfRange}
@@ -84,12 +83,6 @@ endedAs size (OutOfRange n) = OutOfRange n
 -- a form whose range test refuses the largest word, which stands for all numbers that do not fit
 abbrev pub RefusesLargest : Form → Type 0
 RefusesLargest f = (ns : List ℕ) → length ns ≤ f .most → f .fits ns ≡ true → Every (λ n. n < largestWord) ns
-
--- the ranges of two lists of ends
-unfoldable pub ranges : List ℕ → List ℕ → List Range
-ranges [] highs = []
-ranges (l ∷ lows) [] = []
-ranges (l ∷ lows) (h ∷ highs) = l to h ∷ ranges lows highs
 
 -- ---- what every filling function promises: from p on the reader was followed up to r; where nothing was refused, `out` has the words
 -- of what was read. After a refusal nothing is said of `out`, for the reading call clears all named words then

@@ -1,18 +1,19 @@
 // One line after another: each is stored, then judged by its form's ranges. Every function takes the answer so far and returns the next
 // one; a refusal that comes in goes out unchanged, so callers need no branches.
 ghost use mathlib.Core.Path.{_≡_};
-ghost use mathlib.Core.Bool.{_&&_};
 ghost use Prim.Native.Nat.{_-_, _≤_, _<_};
 ghost use lib.ListN.{length};
-ghost use Rattle.meaning.specs.Lists.{Every, all, between, distinct, padded};
+ghost use Rattle.meaning.specs.Lists.{Every, padded};
 ghost use Rattle.meaning.specs.Text.{Form, bytes};
 ghost use Rattle.meaning.specs.Reader.{line};
-ghost use Rattle.meaning.specs.Files.{allWithin, fieldsLine, identifiersLine, numberLine, _to_};
+ghost use Rattle.meaning.specs.Files.{fieldsLine, identifiersLine, numberLine, _to_};
 ghost use Rattle.meaning.specs.Table.{countedWords, largestWord};
+ghost use Rattle.ranges.specs.Ranges.{rangesBetween};
 ghost use Rattle.lines.specs.Progress.{Key, reached, resumed, entriesOf, Sound, unjudged, judgedAs};
-ghost use Rattle.lines.specs.Progress.{endedAs, Unpassed, Stored, RefusesLargest, ranges, ReadEntries};
+ghost use Rattle.lines.specs.Progress.{endedAs, Unpassed, Stored, RefusesLargest, ReadEntries};
+use ranges::are_identifiers;
+use ranges::in_ranges;
 use table::clear;
-use table::is_listed;
 use text::ParsedLine;
 use text::parse_line;
 
@@ -23,57 +24,6 @@ pub enum Progress {
     Next(usize, usize, usize),
     WrongForm(usize),
     OutOfRange(usize),
-}
-
-// ---- tests of ranges. Most lines pass them, so the loops are not left early: without branches the compiler tests several words at once
-
-// Whether each word lies in its range.
-pub fn in_ranges(words: &[u32], lows: &[u32], highs: &[u32]) -> bool
-    requires { ⌜ (length (now words) ≤ length (now lows)) × (length (now words) ≤ length (now highs)) ⌝ }
-    ensures { λ r. ⌜ r ≡ allWithin (ranges (now (lows .entry)) (now (highs .entry))) (now (words .entry)) ⌝ }
-{
-    let mut inside = true;
-    let mut i = words.len();
-    while 0 < i {
-        i -= 1;
-        inside = ((lows[i] <= words[i]) & (words[i] <= highs[i])) & inside;
-    }
-    inside
-}
-
-// Whether all words lie in one range.
-pub fn all_between(words: &[u32], low: u32, high: u32) -> bool
-    ensures { λ r. ⌜ r ≡ all (between low high) (now (words .entry)) ⌝ }
-{
-    let mut inside = true;
-    let mut i = words.len();
-    while 0 < i {
-        i -= 1;
-        inside = ((low <= words[i]) & (words[i] <= high)) & inside;
-    }
-    inside
-}
-
-// Whether no word is listed twice.
-fn are_distinct(words: &[u32]) -> bool
-    ensures { λ r. ⌜ r ≡ distinct (now (words .entry)) ⌝ }
-{
-    let mut i = 0;
-    while i < words.len() {
-        let next = i + 1;
-        if is_listed(&words[next..], words[i]) {
-            return false;
-        }
-        i = next;
-    }
-    true
-}
-
-// "Entries are identifiers, distinct in their line".
-fn are_identifiers(words: &[u32]) -> bool
-    ensures { λ r. ⌜ r ≡ (all (between 1 65535) (now (words .entry)) && distinct (now (words .entry))) ⌝ }
-{
-    all_between(words, 1, 65535) & are_distinct(words)
 }
 
 // ---- lines
@@ -155,7 +105,7 @@ pub fn fields_line(
     requires { ⌜ Sound (now file) p × (length (now lows) ≡ length (now out)) × (length (now highs) ≡ length (now out))
         × Every (λ h. h < largestWord) (now highs) ⌝ }
     ensures { λ r. ⌜ ((k : Key) → bytes k ≡ now (key .entry)
-        → ReadEntries (now (file .entry)) (line (fieldsLine k (ranges (now (lows .entry)) (now (highs .entry))))) (λ ns. ns) p r
+        → ReadEntries (now (file .entry)) (line (fieldsLine k (rangesBetween (now (lows .entry)) (now (highs .entry))))) (λ ns. ns) p r
         (now (out .exit))) ⌝ }
 {
     let stored = stored_line(file, p, key, out.len(), out);

@@ -1,6 +1,6 @@
 -- `item_in_range`: the ends that the code lists are those of the item's ranges, once the highest nesting height is one below the height.
 use borrow.Author.Needs.{needs}
-use Rattle.lines.specs.Progress.{ranges}
+use Rattle.ranges.specs.Ranges.{rangesBetween}
 use Rattle.instance.proofs.item_in_range.Statement.{statement}
 use Rattle.instance.proofs.item_in_range.Tie as tie
 
@@ -26,7 +26,7 @@ in-ranges-requires : tie.Need-in-ranges-requires
 in-ranges-requires c κs = search needs
 
 returns : tie.Need-returns
-unfolding ranges
+unfolding rangesBetween
 returns c = rw (← c .before .before .before .before .one-below .ensures) (c .in-ranges .ensures)
 
 pub item-in-range-spec : {M : Type 1} → statement M

@@ -4,7 +4,7 @@ use native.Mathlib.Omega.{arith}
 use lib.ListN.{length, length-take}
 use lib.Seq.{take-all}
 use Rattle.meaning.specs.Files.{fieldsLine}
-use Rattle.lines.specs.Progress.{ranges}
+use Rattle.ranges.specs.Ranges.{rangesBetween}
 use Rattle.lines.proofs.Largest.{refuses-fields, length-ranges}
 use Rattle.lines.proofs.Judging.{stored-room, judged-entries}
 use borrow.Author.Needs.{needs}
@@ -47,7 +47,7 @@ returns c =
     let l = n .before .before .before in
     let s = l .before .before .before .before .before .before .before in
     let a = s .args in
-    let rs = ranges (a .lows .now) (a .highs .now) in
+    let rs = rangesBetween (a .lows .now) (a .highs .now) in
     let out = l .stored-line .last .1 .1 .1 .1 .0 in
     let long : length out ≡ length (a .out .now) = l .stored-line .kept .1 .1 .1 .1 .0 in
     let size : length rs ≡ length (a .out .now) = length-ranges (a .lows .now) (a .highs .now) (s .pre .1 ∙ sym (s .pre .2)) ∙ s .pre .2 in

@@ -1,7 +1,7 @@
 -- A row of one range. Whatever the key's bytes are, they are those of some text, so the answer is sound and the number in range.
 use mathlib.Core.Path.{sym, _∙_}
 use native.Mathlib.Omega.{arith}
-use Rattle.lines.specs.Progress.{ranges}
+use Rattle.ranges.specs.Ranges.{rangesBetween}
 use Rattle.lines.proofs.Keys.{key-of}
 use Rattle.lines.proofs.Number.{going-entries, number-read, number-refused, number-most}
 use borrow.Author.Needs.{needs}
@@ -24,7 +24,7 @@ entries-requires : tie.Need-entries-requires
 entries-requires c κs = search needs
 
 returns : tie.Need-returns
-unfolding ranges
+unfolding rangesBetween
 returns c =
     let l = c .before .before .before in
     let s = l .before .before .before .before .before .before in
@@ -39,7 +39,7 @@ array-read-t20 : tie.Need-array-read-t20
 array-read-t20 c = search needs
 
 returns-2 : tie.Need-returns-2
-unfolding ranges
+unfolding rangesBetween
 returns-2 c =
     let l = c .before .before .before in
     let s = l .before .before .before .before .before .before in

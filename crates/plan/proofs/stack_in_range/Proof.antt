@@ -1,6 +1,6 @@
 -- The two lists of ends are the ranges of a stack's line.
 use borrow.Author.Needs.{needs}
-use Rattle.lines.specs.Progress.{ranges}
+use Rattle.ranges.specs.Ranges.{rangesBetween}
 use Rattle.plan.proofs.stack_in_range.Statement.{statement}
 use Rattle.plan.proofs.stack_in_range.Tie as tie
 
@@ -14,7 +14,7 @@ in-ranges-requires : tie.Need-in-ranges-requires
 in-ranges-requires c κs = search needs
 
 returns : tie.Need-returns
-unfolding ranges
+unfolding rangesBetween
 returns c = c .in-ranges .ensures
 
 pub stack-in-range-spec : {M : Type 1} → statement M

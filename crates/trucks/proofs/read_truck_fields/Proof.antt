@@ -1,7 +1,7 @@
 -- `trucks::read_truck_fields` meets its contract: the ends of the ranges, paired, are the ranges of a truck's line.
 use mathlib.Core.Path.{refl}
 use borrow.Author.Needs.{needs}
-use Rattle.lines.specs.Progress.{ranges}
+use Rattle.ranges.specs.Ranges.{rangesBetween}
 use Rattle.trucks.proofs.read_truck_fields.Statement.{statement}
 use Rattle.trucks.proofs.read_truck_fields.Tie as tie
 
@@ -21,7 +21,7 @@ same-length : tie.Need-same-length
 same-length c = search needs
 
 returns : tie.Need-returns
-unfolding ranges
+unfolding rangesBetween
 returns c = c .before .before .fields-line .ensures "truck=" refl .into
 
 pub read-truck-fields-spec : {M : Type 1} → statement M

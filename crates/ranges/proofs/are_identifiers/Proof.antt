@@ -2,8 +2,8 @@
 use mathlib.Core.Path.{ap₂}
 use mathlib.Core.Bool.{_&&_}
 use borrow.Author.Needs.{needs}
-use Rattle.lines.proofs.are_identifiers.Statement.{statement}
-use Rattle.lines.proofs.are_identifiers.Tie as tie
+use Rattle.ranges.proofs.are_identifiers.Statement.{statement}
+use Rattle.ranges.proofs.are_identifiers.Tie as tie
 
 all-between-requires : tie.Need-all-between-requires
 all-between-requires c κs = search needs

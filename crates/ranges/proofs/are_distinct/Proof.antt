@@ -4,11 +4,10 @@ use mathlib.Core.Path.{_≡_, refl, sym, _∙_}
 use native.Mathlib.Omega.{arith}
 use lib.ListN.{length, drop}
 use Rattle.meaning.specs.Lists.{distinct}
-use Rattle.text.proofs.Bytes.{take-rest}
-use Rattle.lines.proofs.Scan.{distinct-on, distinct-off, distinct-end}
+use Rattle.ranges.proofs.Scan.{distinct-on, distinct-off, distinct-end}
 use borrow.Author.Needs.{needs}
-use Rattle.lines.proofs.are_distinct.Statement.{statement}
-use Rattle.lines.proofs.are_distinct.Tie as tie
+use Rattle.ranges.proofs.are_distinct.Statement.{statement}
+use Rattle.ranges.proofs.are_distinct.Tie as tie
 
 abbrev Inv-loop : tie.InvT-loop
 Inv-loop words i₀ i = (i ≤ length words) × (distinct (drop i words) ≡ distinct words)
@@ -47,8 +46,7 @@ returns : tie.Need-returns Inv-loop μ-loop
 returns c =
     let l = c .before .before .before .before .before in
     let ws = l .before .before .args .words .now in
-    let rest = take-rest ws (l .loop .i + 1) in
-    sym (distinct-off ws (l .loop .i) (omega arith) (rw rest at (sym (c .before .is-listed .ensures) ∙ c .if1 .taken))) ∙ l .loop .inv .1
+    sym (distinct-off ws (l .loop .i) (omega arith) (sym (c .before .is-listed .ensures) ∙ c .if1 .taken)) ∙ l .loop .inv .1
 
 loop-less : tie.Need-loop-less Inv-loop μ-loop
 loop-less c = search needs
@@ -57,8 +55,7 @@ loop-again : tie.Need-loop-again Inv-loop μ-loop
 loop-again c =
     let l = c .before .before .before .before .before in
     let ws = l .before .before .args .words .now in
-    let rest = take-rest ws (l .loop .i + 1) in
-    (omega arith, sym (distinct-on ws (l .loop .i) (omega arith) (rw rest at (sym (c .before .is-listed .ensures) ∙ c .if1 .left))) ∙ l .loop .inv .1)
+    (omega arith, sym (distinct-on ws (l .loop .i) (omega arith) (sym (c .before .is-listed .ensures) ∙ c .if1 .left)) ∙ l .loop .inv .1)
 
 returns-2 : tie.Need-returns-2 Inv-loop μ-loop
 returns-2 c =

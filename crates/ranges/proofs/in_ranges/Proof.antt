@@ -4,15 +4,15 @@ use Prim.Native.Nat.{_≤_}
 use native.Mathlib.Omega.{arith}
 use lib.ListN.{length, drop}
 use Rattle.meaning.specs.Files.{allWithin}
-use Rattle.lines.specs.Progress.{ranges}
-use Rattle.lines.proofs.Scan.{within-back, within-end}
+use Rattle.ranges.specs.Ranges.{rangesBetween}
+use Rattle.ranges.proofs.Scan.{within-back, within-end}
 use borrow.Author.Needs.{needs}
-use Rattle.lines.proofs.in_ranges.Statement.{statement}
-use Rattle.lines.proofs.in_ranges.Tie as tie
+use Rattle.ranges.proofs.in_ranges.Statement.{statement}
+use Rattle.ranges.proofs.in_ranges.Tie as tie
 
 abbrev Inv-loop : tie.InvT-loop
 Inv-loop words lows highs inside₀ i₀ inside i =
-    (i ≤ length words) × (inside ≡ allWithin (ranges (drop i lows) (drop i highs)) (drop i words))
+    (i ≤ length words) × (inside ≡ allWithin (rangesBetween (drop i lows) (drop i highs)) (drop i words))
 
 abbrev μ-loop : tie.MeasureT-loop
 μ-loop words lows highs inside₀ i₀ inside i = i

@@ -4,10 +4,10 @@ use Prim.Native.Nat.{_≤_}
 use native.Mathlib.Omega.{arith}
 use lib.ListN.{length, drop}
 use Rattle.meaning.specs.Lists.{all, between}
-use Rattle.lines.proofs.Scan.{all-back, all-end}
+use Rattle.ranges.proofs.Scan.{all-back, all-end}
 use borrow.Author.Needs.{needs}
-use Rattle.lines.proofs.all_between.Statement.{statement}
-use Rattle.lines.proofs.all_between.Tie as tie
+use Rattle.ranges.proofs.all_between.Statement.{statement}
+use Rattle.ranges.proofs.all_between.Tie as tie
 
 abbrev Inv-loop : tie.InvT-loop
 Inv-loop words low high inside₀ i₀ inside i =
