@@ -1,12 +1,18 @@
 // Whether words are in range, by document 01, "The two files": tests of lent words, however these came to stand where they stand.
 ghost use mathlib.Core.Path.{_≡_};
 ghost use mathlib.Core.Bool.{_&&_};
-ghost use Prim.Native.Nat.{_≤_};
+ghost use Prim.Native.Nat.{_-_, _≤_};
 ghost use lib.ListN.{length};
 ghost use Rattle.meaning.specs.Lists.{all, between, distinct};
 ghost use Rattle.meaning.specs.Files.{allWithin};
-ghost use Rattle.ranges.specs.Ranges.{rangesBetween};
+ghost use Rattle.ranges.specs.Ranges.{rangesBetween, itemRangesUpTo, truckRangesUpTo};
+use table::fields::IDE;
+use table::fields::IH;
+use table::fields::IL;
 use table::is_listed;
+
+// The last day of document 01. The tests of a line take the last time as a parameter.
+pub const LAST_DAY: u32 = 399;
 
 // ---- any words. Most pass their test, so the loops are not left early: without branches the compiler tests several words at once
 
@@ -57,4 +63,76 @@ pub fn are_identifiers(words: &[u32]) -> bool
     ensures { λ r. ⌜ r ≡ (all (between 1 65535) (now (words .entry)) && distinct (now (words .entry))) ⌝ }
 {
     all_between(words, 1, 65535) & are_distinct(words)
+}
+
+// ---- the lines of an instance
+
+// One less, and 0 for 0: a nesting height is below the height.
+fn one_below(height: u32) -> u32
+    ensures { λ r. ⌜ r ≡ height - 1 ⌝ }
+{
+    if height == 0 { 0 } else { height - 1 }
+}
+
+// Whether an item's fields are in range. Width, nesting height and latest day depend on other fields.
+pub fn item_in_range(fields: &[u32], last: u32) -> bool
+    requires { ⌜ length (now fields) ≡ 16 ⌝ }
+    ensures { λ r. ⌜ r ≡ allWithin (itemRangesUpTo last (now (fields .entry))) (now (fields .entry)) ⌝ }
+{
+    let length = fields[IL];
+    let nesting = one_below(fields[IH]);
+    let earliest = fields[IDE];
+    // Every field starts at 1, but for nesting height, forced orientation, IDE and IC, which start at 0, and IDL, which starts at IDE.
+    let lows: [u32; 16] = [1, 1, 1, 0, 1, 1, 1, 1, 0, 0, earliest, 1, 1, 1, 1, 0];
+    let highs: [u32; 16] = [
+        20000, // IL
+        length, // IW, up to IL
+        20000, // IH
+        nesting, // nesting height, below IH
+        50000, // IM
+        65535, // stackability code
+        64, // maximal stackability
+        65535, // product
+        2, // forced orientation
+        last, // IDE
+        last, // IDL
+        65535, // plant
+        65535, // plant dock
+        65535, // supplier
+        65535, // supplier dock
+        100000, // IC
+    ];
+    in_ranges(fields, &lows, &highs)
+}
+
+// Whether a truck's fields are in range.
+pub fn truck_in_range(fields: &[u32], last: u32) -> bool
+    requires { ⌜ length (now fields) ≡ 20 ⌝ }
+    ensures { λ r. ⌜ r ≡ allWithin (truckRangesUpTo last) (now (fields .entry)) ⌝ }
+{
+    // Every field starts at 1, but for TDA, TMM, TF, TC, CM, CJfc, CJfh, EM, EJcr and EJeh, which start at 0.
+    let lows: [u32; 20] = [1, 1, 1, 1, 1, 0, 0, 0, 1, 0, 0, 1, 0, 0, 0, 1, 0, 0, 1, 1];
+    let highs: [u32; 20] = [
+        20000, // TL
+        20000, // TW
+        20000, // TH
+        50000, // TMm
+        65535, // plant
+        last, // TDA
+        50000, // TMM
+        1, // TF
+        100000, // TEM
+        1000000, // TC
+        50000, // CM
+        20000, // CJfm
+        20000, // CJfc
+        20000, // CJfh
+        50000, // EM
+        20000, // EJhr
+        20000, // EJcr
+        20000, // EJeh
+        50000, // EMmr
+        50000, // EMmm
+    ];
+    in_ranges(fields, &lows, &highs)
 }
