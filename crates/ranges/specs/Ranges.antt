@@ -1,7 +1,7 @@
 -- Ranges as the code has them.
 use mathlib.Core.List.{List, [], _∷_}
-use Prim.Native.Nat.{ℕ}
-use lib.ListN.{set}
+use Prim.Native.Nat.{ℕ, zero, suc, _*_}
+use lib.ListN.{getD, set}
 use Rattle.meaning.specs.Files.{Range, _to_, itemRanges, truckRanges}
 use Rattle.meaning.specs.Model.{IDE}
 
@@ -18,3 +18,8 @@ itemRangesUpTo last a = set (set (itemRanges a) 9 (0 to last)) 10 (IDE a to last
 -- the ranges of a truck's line with another last time, for TDA
 abbrev pub truckRangesUpTo : ℕ → List Range
 truckRangesUpTo last = set truckRanges 5 (0 to last)
+
+-- the numbers of the stacks in the first k rows, the last one first
+unfoldable pub rowNumbers : ℕ → List ℕ → List ℕ
+rowNumbers zero part = []
+rowNumbers (suc k) part = getD part (8 * k) 0 ∷ rowNumbers k part

@@ -1,15 +1,16 @@
 // Whether words are in range, by document 01, "The two files": tests of lent words, however these came to stand where they stand.
 ghost use mathlib.Core.Path.{_≡_};
 ghost use mathlib.Core.Bool.{_&&_};
-ghost use Prim.Native.Nat.{_-_, _≤_};
+ghost use Prim.Native.Nat.{_-_, _*_, _≤_};
 ghost use lib.ListN.{length};
-ghost use Rattle.meaning.specs.Lists.{all, between, distinct};
-ghost use Rattle.meaning.specs.Files.{allWithin};
-ghost use Rattle.ranges.specs.Ranges.{rangesBetween, itemRangesUpTo, truckRangesUpTo};
+ghost use Rattle.meaning.specs.Lists.{all, between, listed, distinct};
+ghost use Rattle.meaning.specs.Files.{allWithin, stackRanges};
+ghost use Rattle.ranges.specs.Ranges.{rangesBetween, itemRangesUpTo, truckRangesUpTo, rowNumbers};
 use table::fields::IDE;
 use table::fields::IH;
 use table::fields::IL;
 use table::is_listed;
+use table::layout::STACK_WORDS;
 
 // The last day of document 01. The tests of a line take the last time as a parameter.
 pub const LAST_DAY: u32 = 399;
@@ -135,4 +136,32 @@ pub fn truck_in_range(fields: &[u32], last: u32) -> bool
         50000, // EMmm
     ];
     in_ranges(fields, &lows, &highs)
+}
+
+// ---- the lines of a plan
+
+// Whether the fields of a stack's line are in range for so many trucks.
+pub fn stack_in_range(fields: &[u32], trucks: u32) -> bool
+    requires { ⌜ length (now fields) ≡ 6 ⌝ }
+    ensures { λ r. ⌜ r ≡ allWithin (stackRanges trucks) (now (fields .entry)) ⌝ }
+{
+    // number, truck, copy, x, y, orientation
+    let lows: [u32; 6] = [1, 1, 0, 0, 0, 1];
+    let highs: [u32; 6] = [65535, trucks, 99, 20000, 20000, 2];
+    in_ranges(fields, &lows, &highs)
+}
+
+// Whether one of the stacks in the first rows has this number, which is the first word of its row. The loop is not left early: without a
+// branch the compiler compares several rows at once.
+pub fn is_repeated(part: &[u32], rows: usize, number: u32) -> bool
+    requires { ⌜ 8 * rows ≤ length (now part) ⌝ }
+    ensures { λ r. ⌜ r ≡ listed number (rowNumbers rows (now (part .entry))) ⌝ }
+{
+    let mut repeated = false;
+    let mut k: usize = 0;
+    while k < rows {
+        repeated = (number == part[STACK_WORDS * k]) | repeated;
+        k += 1;
+    }
+    repeated
 }

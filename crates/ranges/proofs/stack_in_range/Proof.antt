@@ -1,8 +1,8 @@
 -- The two lists of ends are the ranges of a stack's line.
 use borrow.Author.Needs.{needs}
 use Rattle.ranges.specs.Ranges.{rangesBetween}
-use Rattle.plan.proofs.stack_in_range.Statement.{statement}
-use Rattle.plan.proofs.stack_in_range.Tie as tie
+use Rattle.ranges.proofs.stack_in_range.Statement.{statement}
+use Rattle.ranges.proofs.stack_in_range.Tie as tie
 
 slice-aggregate-in-ranges : tie.Need-slice-aggregate-in-ranges
 slice-aggregate-in-ranges c = search needs
