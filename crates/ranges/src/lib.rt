@@ -1,15 +1,23 @@
 // Whether words are in range, by document 01, "The two files": tests of lent words, however these came to stand where they stand.
 ghost use mathlib.Core.Path.{_≡_};
 ghost use mathlib.Core.Bool.{_&&_};
-ghost use Prim.Native.Nat.{_-_, _*_, _≤_};
-ghost use lib.ListN.{length};
-ghost use Rattle.meaning.specs.Lists.{all, between, listed, distinct};
+ghost use mathlib.Core.List.{map};
+ghost use Prim.Native.Nat.{_-_, _*_, _≤_, _<_};
+ghost use lib.ListN.{length, getD};
+ghost use Rattle.meaning.specs.Lists.{all, between, chunks, listed, distinct, orderIn};
+ghost use Rattle.meaning.specs.Places.{lowest};
+ghost use Rattle.meaning.specs.Model.{IS};
 ghost use Rattle.meaning.specs.Files.{allWithin, stackRanges};
+ghost use Rattle.meaning.specs.Check.{sameLengthAndWidth, codeClashes};
+ghost use Rattle.ranges.specs.Clashes.{itemAt, itemsIn, clashPlace};
 ghost use Rattle.ranges.specs.Ranges.{rangesBetween, itemRangesUpTo, truckRangesUpTo, rowNumbers};
 use table::fields::IDE;
 use table::fields::IH;
 use table::fields::IL;
+use table::fields::IS;
+use table::fields::IW;
 use table::is_listed;
+use table::layout::ITEM_WORDS;
 use table::layout::STACK_WORDS;
 
 // The last day of document 01. The tests of a line take the last time as a parameter.
@@ -164,4 +172,66 @@ pub fn is_repeated(part: &[u32], rows: usize, number: u32) -> bool
         k += 1;
     }
     repeated
+}
+
+// ---- code clash. The words of the items stand one behind the other, and items go by their numbers, from 1
+
+// A field of an item.
+fn item_word(items: &[u32], n: u32, field: usize) -> u32
+    requires { ⌜ (1 ≤ n) × (16 * n ≤ length (now items)) × (field < 16) ⌝ }
+    ensures { λ r. ⌜ r ≡ getD (itemAt (now (items .entry)) n) field 0 ⌝ }
+{
+    let row = ITEM_WORDS * (n as usize - 1);
+    items[row + field]
+}
+
+// The number of the first item with this code, of so many; 0 where none has it.
+fn first_of_code(items: &[u32], count: u32, code: u32) -> u32
+    requires { ⌜ 16 * count ≤ length (now items) ⌝ }
+    ensures { λ r. ⌜ r ≡ orderIn (map IS (chunks 16 count (now (items .entry)))) code ⌝ }
+{
+    let mut passed = 0;
+    while passed < count {
+        let n = passed + 1;
+        if item_word(items, n, IS) == code {
+            return n;
+        }
+        passed = n;
+    }
+    0
+}
+
+// Whether two items have the same length and width.
+fn same_length_and_width(items: &[u32], n: u32, k: u32) -> bool
+    requires { ⌜ (1 ≤ n) × (16 * n ≤ length (now items)) × (1 ≤ k) × (16 * k ≤ length (now items)) ⌝ }
+    ensures { λ r. ⌜ r ≡ sameLengthAndWidth (itemAt (now (items .entry)) n) (itemAt (now (items .entry)) k) ⌝ }
+{
+    if item_word(items, n, IL) == item_word(items, k, IL) {
+        item_word(items, n, IW) == item_word(items, k, IW)
+    } else {
+        false
+    }
+}
+
+// Verdict 6: an item that differs in length or width from the lowest-numbered item of its code, and that one.
+pub enum Clash {
+    Between(u32, u32),
+    Nowhere,
+}
+
+// The clash of the lowest of so many items. They are asked from the last to the first, so the last clash found is the lowest.
+pub fn lowest_clash(items: &[u32], count: u32) -> Clash
+    requires { ⌜ 16 * count ≤ length (now items) ⌝ }
+    ensures { λ r. ⌜ clashPlace r ≡ lowest (codeClashes (itemsIn count (now (items .entry)))) ⌝ }
+{
+    let mut clash = Clash::Nowhere;
+    let mut n = count;
+    while 0 < n {
+        let first = first_of_code(items, count, item_word(items, n, IS));
+        if !same_length_and_width(items, n, first) {
+            clash = Clash::Between(n, first);
+        }
+        n -= 1;
+    }
+    clash
 }
