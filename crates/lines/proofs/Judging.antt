@@ -22,19 +22,19 @@ use Rattle.lines.proofs.Follow.{read-meets}
 
 -- ---- the cases of a stored line
 -- the test decides nothing where the line was refused
-same-judged : (r : StoredLine) (s t : Bool) → (HasNumbers r → s ≡ t) → judgedAs r s ≡ judgedAs r t
+pub same-judged : (r : StoredLine) (s t : Bool) → (HasNumbers r → s ≡ t) → judgedAs r s ≡ judgedAs r t
 same-judged (Numbers n next k) s t h = ap (judgedAs (Numbers n next k)) (h tt)
 same-judged (StoredWrongForm n) s t h = refl
 same-judged (StoredOutOfRange n) s t h = refl
 
 -- a line that is passed has its numbers stored
-has-numbers : (r : StoredLine) (ok : Bool) → Going (judgedAs r ok) → HasNumbers r
+pub has-numbers : (r : StoredLine) (ok : Bool) → Going (judgedAs r ok) → HasNumbers r
 has-numbers (Numbers n next k) ok g = tt
 has-numbers (StoredWrongForm n) ok g = g
 has-numbers (StoredOutOfRange n) ok g = g
 
 -- the number of entries that the answer gives
-count-judged : (r : StoredLine) (ok : Bool) → cond ok (entriesOf r) 0 ≡ unlessRefused (judgedAs r ok) (entriesOf r)
+pub count-judged : (r : StoredLine) (ok : Bool) → cond ok (entriesOf r) 0 ≡ unlessRefused (judgedAs r ok) (entriesOf r)
 count-judged (Numbers n next k) true = refl
 count-judged (Numbers n next k) false = refl
 count-judged (StoredWrongForm n) true = refl
