@@ -22,7 +22,7 @@ same-length c = search needs
 
 returns : tie.Need-returns
 unfolding rangesBetween
-returns c = c .before .before .fields-line .ensures "truck=" refl .into
+returns c = c .before .before .fields-line .ensures "truck=" refl
 
 pub read-truck-fields-spec : {M : Type 1} → statement M
 read-truck-fields-spec =
