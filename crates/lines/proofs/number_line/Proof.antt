@@ -1,12 +1,17 @@
--- A row of one range. Whatever the key's bytes are, they are those of some text, so the answer is sound and the number in range.
-use mathlib.Core.Path.{sym, _∙_}
+-- A row of one range. Whatever the key's bytes are, they are those of some text, so the answer is within the file and the number in range.
+use mathlib.Core.Path.{refl, subst, sym}
 use native.Mathlib.Omega.{arith}
 use Rattle.ranges.specs.Ranges.{rangesBetween}
+use Rattle.lines.specs.Progress.{Going}
 use Rattle.lines.proofs.Keys.{key-of}
-use Rattle.lines.proofs.Number.{going-entries, number-read, number-refused, number-most}
+use Rattle.lines.proofs.Number.{refused, number-says, number-most}
 use borrow.Author.Needs.{needs}
 use Rattle.lines.proofs.number_line.Statement.{statement}
 use Rattle.lines.proofs.number_line.Tie as tie
+
+-- ---- the way back: from the line that was read to the key's bytes and to the entry
+abbrev known-key : tie.After-fields-line → tie.After-shared-slice-known2
+known-key c = c .before .before .before .before
 
 slice-aggregate-fields-line : tie.Need-slice-aggregate-fields-line
 slice-aggregate-fields-line c = search needs
@@ -20,35 +25,37 @@ slice-aggregate-fields-line-3 c = search needs
 fields-line-requires : tie.Need-fields-line-requires
 fields-line-requires c κs = search needs
 
-entries-requires : tie.Need-entries-requires
-entries-requires c κs = search needs
+enum-told : tie.Need-enum-told
+enum-told c = search needs
+
+array-read-value : tie.Need-array-read-value
+array-read-value c = search needs
 
 returns : tie.Need-returns
 unfolding rangesBetween
 returns c =
-    let l = c .before .before .before in
-    let s = l .before .before .before .before .before .before in
-    let a = s .args in
-    let key = key-of (a .key .now) (λ n. omega (arith, l .before .before .before .before .shared-slice-known2 .given n)) in
-    let none = sym (c .before .entries .ensures) ∙ c .if1 .taken in (
-      λ k b. number-refused (a .file .now) _ k (a .low) (a .high) (a .p) (l .fields-line .result) (l .fields-line .ensures k b) none,
-      (l .fields-line .ensures (key .0) (key .1) .into .sound, omega arith),
+    let line = c .before .before .before in
+    let words = known-key line in
+    let a = words .before .before .args in
+    let key = key-of (a .key .now) (λ n. omega (arith, words .shared-slice-known2 .given n)) in
+    let read = line .fields-line .ensures in
+    let r = line .fields-line .result in
+    let going = subst Going (sym (c .enum-told .given .1)) tt in (
+      λ k b. number-says (a .file .now) _ k (a .low) (a .high) (a .p) r (read k b) _ (λ g. refl),
+      (read (key .0) (key .1) .within, number-most (a .file .now) _ (key .0) (a .low) (a .high) (a .p) r (read (key .0) (key .1)) going),
     )
-
-array-read-t20 : tie.Need-array-read-t20
-array-read-t20 c = search needs
 
 returns-2 : tie.Need-returns-2
 unfolding rangesBetween
 returns-2 c =
-    let l = c .before .before .before in
-    let s = l .before .before .before .before .before .before in
-    let a = s .args in
-    let key = key-of (a .key .now) (λ n. omega (arith, l .before .before .before .before .shared-slice-known2 .given n)) in
-    let read = l .fields-line .ensures (key .0) (key .1) in
-    let going = going-entries (l .fields-line .result) (λ e. c .if1 .left (c .before .entries .ensures ∙ e)) in (
-      λ k b. number-read (a .file .now) _ k (a .low) (a .high) (a .p) (l .fields-line .result) (l .fields-line .ensures k b),
-      (read .into .sound, number-most (a .file .now) _ (key .0) (a .low) (a .high) (a .p) (l .fields-line .result) read going),
+    let line = c .before .before in
+    let words = known-key line in
+    let a = words .before .before .args in
+    let key = key-of (a .key .now) (λ n. omega (arith, words .shared-slice-known2 .given n)) in
+    let read = line .fields-line .ensures in
+    let r = line .fields-line .result in (
+      λ k b. number-says (a .file .now) _ k (a .low) (a .high) (a .p) r (read k b) 0 (λ g. absurd (refused r (c .match .keys2) g)),
+      (read (key .0) (key .1) .within, omega arith),
     )
 
 pub number-line-spec : {M : Type 1} → statement M
@@ -59,7 +66,7 @@ number-line-spec =
     slice-aggregate-fields-line-2
     slice-aggregate-fields-line-3
     fields-line-requires
-    entries-requires
+    enum-told
+    array-read-value
     returns
-    array-read-t20
     returns-2)

@@ -1,7 +1,6 @@
 -- `read_truck_fields`: the line fills the 20 words, so that the test on the words is the form's.
-use mathlib.Core.Path.{_≡_, refl, sym, _∙_}
+use mathlib.Core.Path.{refl, sym}
 use native.Mathlib.Omega.{arith}
-use lib.ListN.{length}
 use borrow.Author.Needs.{needs}
 use Rattle.meaning.specs.Files.{truckRanges, truckLine}
 use Rattle.meaning.proofs.Fields.{ranges-below}
@@ -33,15 +32,10 @@ returns c =
     let test = c .before in
     let line = test .before .before .before .before in
     let start = line .before .before .before .before .before in
-    let out₀ = start .args .part .now in
-    let out = line .stored-line .last .1 .1 .1 .1 .0 in
-    let stored = line .stored-line .result in
-    let promised = line .stored-line .ensures in
-    let long : length out ≡ length out₀ = line .stored-line .kept .1 .1 .1 .1 .0 in
-    let full : length out ≡ 20 = long ∙ start .pre .1 in
+    let stored = line .stored-line .ensures in
     rw (c .judged .ensures)
-    (full-read (start .args .file .now) out₀ out truckLine (start .args .p) stored (test .truck-in-range .result) long
-    (promised .0 truckLine refl refl (sym (start .pre .1)) truck-refuses-largest) (promised .1 .0) (rw full (promised .1 .1)) (test .truck-in-range .ensures))
+    (full-read stored (omega (arith, line .stored-line .kept .1 .1 .1 .1 .0)) truckLine
+    (stored .says truckLine refl refl (sym (start .pre .1)) truck-refuses-largest) (test .truck-in-range .result) (test .truck-in-range .ensures))
 
 pub read-truck-fields-spec : {M : Type 1} → statement M
 read-truck-fields-spec =

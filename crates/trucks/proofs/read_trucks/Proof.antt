@@ -48,7 +48,7 @@ part-read-truck-end c = search needs
 read-truck-requires : tie.Need-read-truck-requires Inv-loop μ-loop
 read-truck-requires c κs =
     let turn = c .before .before .loop in
-    (turn .inv .1 .sound, mid-len (160 * turn .k) (160 * turn .k + 160) (turn .part) (omega arith) ∙ omega arith)
+    (turn .inv .1 .within, mid-len (160 * turn .k) (160 * turn .k + 160) (turn .part) (omega arith) ∙ omega arith)
 
 add-k : tie.Need-add-k Inv-loop μ-loop
 add-k c = search needs
