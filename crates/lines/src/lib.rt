@@ -9,7 +9,7 @@ ghost use Rattle.meaning.specs.Reader.{line};
 ghost use Rattle.meaning.specs.Files.{fieldsLine, identifiersLine, numberLine, _to_};
 ghost use Rattle.meaning.specs.Table.{countedWords, largestWord};
 ghost use Rattle.ranges.specs.Ranges.{rangesBetween};
-ghost use Rattle.lines.specs.Progress.{Key, atStart, reached, resumed, WithinFile, endedAs};
+ghost use Rattle.lines.specs.Progress.{Key, reached, resumed, WithinFile, endedAs};
 ghost use Rattle.lines.specs.Progress.{entriesOf, judgedAs, judgedEntriesAs, StoredPromise, ReadInto, ReadEntries};
 use ranges::are_identifiers;
 use ranges::in_ranges;
@@ -30,21 +30,15 @@ pub enum Progress {
     OutOfRange(usize),
 }
 
+// The start of a file: nothing is read yet.
+pub const START: Progress = Progress::Next(Cursor { at: 0, line: 0 });
+
 // A line whose numbers are stored and not yet judged: how many lines stand before it, the next cursor, and how many numbers it has. Or
 // what was refused, as above.
 pub enum StoredLine {
     Numbers(usize, Cursor, usize),
     WrongForm(usize),
     OutOfRange(usize),
-}
-
-// ---- lines
-
-// The start of a file.
-pub fn start() -> Progress
-    ensures { λ r. ⌜ r ≡ atStart ⌝ }
-{
-    Progress::Next(Cursor { at: 0, line: 0 })
 }
 
 // Stores the numbers of the next line. Their ranges are not judged yet.
