@@ -70,15 +70,15 @@ returns c =
     let words = start .args .part .now in
     let from = placed .trucks-at .result in
     -- what came back of each part
-    let head = first .read-head .last .1 .1 .1 .0 in
+    let head = first .read-head .last .1 .1 .0 in
     let items = second .read-items .last .1 .1 .1 .0 in
     let trucks = third .read-trucks .last .1 .1 .1 .0 in
     let one = putMid 0 16 words head in
     let two = putMid 16 (from - 16) one items in
-    let longOne : length one ≡ length words = same-len-mid 0 16 words head (first .read-head .kept .1 .1 .1 .0) in
+    let longOne : length one ≡ length words = same-len-mid 0 16 words head (first .read-head .kept .1 .1 .0) in
     let longTwo : length two ≡ length words = same-len-mid 16 (from - 16) one items (second .read-items .kept .1 .1 .1 .0) ∙ longOne in
     -- how long the parts are
-    let headLong : length head ≡ 16 = first .read-head .kept .1 .1 .1 .0 ∙ mid-len 0 16 words (omega (arith, start .pre .1)) in
+    let headLong : length head ≡ 16 = first .read-head .kept .1 .1 .0 ∙ mid-len 0 16 words (omega (arith, start .pre .1)) in
     let lentItems : length (take (from - 16) (drop 16 one)) ≡ 16 * m .items =
     mid-len 16 from one (omega (arith, start .pre .1, placed .trucks-at .ensures)) ∙ omega (arith, placed .trucks-at .ensures)
     in

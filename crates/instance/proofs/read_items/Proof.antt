@@ -48,7 +48,7 @@ read-item-requires : tie.Need-read-item-requires Inv-loop μ-loop
 read-item-requires c κs =
     let loop = c .before .before in
     let at = 16 * loop .loop .k in
-    (loop .loop .inv .1 .sound, mid-len at (at + 16) (loop .loop .part) (omega arith) ∙ omega arith)
+    (loop .loop .inv .1 .within, mid-len at (at + 16) (loop .loop .part) (omega arith) ∙ omega arith)
 
 add-k : tie.Need-add-k Inv-loop μ-loop
 add-k c = search needs
