@@ -37,10 +37,11 @@ head-first m n bs =
     regroup (numberLine "items=" (1 to m .items) n bs) (fromTrucks m αT αI αE) afterHead _ (λ items n bs.
     regroup (numberLine "trucks=" (1 to m .trucks) n bs) (λ trucks. give (headNumbers αT αI αE items trucks)) afterHead _ (λ trucks n bs. refl)))))
 
-module _ (m : Limits) (file : List ℕ) (head : HeadAnswer) (items trucks : Progress) (a b c : List ℕ)
+module _ {m : Limits} {file : List ℕ} {head : HeadAnswer} {items trucks : Progress} {a b c : List ℕ} {itemSize truckSize : ℕ}
     (h : HeadPromise m file head a)
-    (i : ReadInto file (times (head .items) (line itemLine)) (rows (16 * m .items) (λ ns. ns)) (head .progress) items b)
-    (t : ReadInto file (times (head .trucks) truckLines) (rows (160 * m .trucks) truckWords) items trucks c) where
+    (i : ReadInto file (times (head .items) (line itemLine)) (rows itemSize (λ ns. ns)) (head .progress) items b)
+    (t : ReadInto file (times (head .trucks) truckLines) (rows truckSize truckWords) items trucks c)
+    (itemsFill : itemSize ≡ 16 * m .items) (trucksFill : truckSize ≡ 160 * m .trucks) where
   abbrev numbers : HeadNumbers
   numbers = h .into .value
 
@@ -82,7 +83,7 @@ module _ (m : Limits) (file : List ℕ) (head : HeadAnswer) (items trucks : Prog
       let row : a ≡ headRow (headNumbers (numbers .αT) (numbers .αI) (numbers .αE) (length (i .value)) (length (t .value))) =
       h .into .holds gh ∙ ap₂ (λ (k l : ℕ). headRow (headNumbers (numbers .αT) (numbers .αI) (numbers .αE) k l)) itemCount truckCount
       in
-      ap₂ (λ (x y : List ℕ). x ++ y) row (ap₂ (λ (x y : List ℕ). x ++ y) (i .holds gi) (t .holds g))
+      rw (← itemsFill, ← trucksFill) (ap₂ (λ (x y : List ℕ). x ++ y) row (ap₂ (λ (x y : List ℕ). x ++ y) (i .holds gi) (t .holds g)))
 
   pub instance-read : (part : List ℕ) → part ≡ a ++ (b ++ c) → ReadInto file (instanceFile m) (instanceWords m) atStart (endedAs (length file) trucks) part
   instance-read part e =

@@ -128,10 +128,12 @@ fn read_head(limits: Limits, file: &[u8], part: &mut [u32]) -> HeadAnswer
     part[ITEM_COUNT] = items.value;
     part[TRUCK_COUNT] = trucks.value;
     let progress = trucks.progress;
+    let item_count = items.value as usize;
+    let truck_count = trucks.value as usize;
     HeadAnswer {
         progress,
-        items: items.value as usize,
-        trucks: trucks.value as usize,
+        items: item_count,
+        trucks: truck_count,
     }
 }
 

@@ -80,11 +80,11 @@ slice-write-part-4 c = simp length-set (omega (arith, long (cleared (third (four
 slice-write-part-5 : tie.Need-slice-write-part-5
 slice-write-part-5 c = simp length-set (omega (arith, long (cleared (third (fourth c)))))
 
-cast-t40 : tie.Need-cast-t40
-cast-t40 c = search needs
+cast-item-count : tie.Need-cast-item-count
+cast-item-count c = search needs
 
-cast-t41 : tie.Need-cast-t41
-cast-t41 c = search needs
+cast-truck-count : tie.Need-cast-truck-count
+cast-truck-count c = search needs
 
 same-length : tie.Need-same-length
 same-length c = simp length-set (cleared (third (fourth (c .before .before))) .clear .kept .0)
@@ -144,7 +144,7 @@ read-head-spec =
     slice-write-part-3
     slice-write-part-4
     slice-write-part-5
-    cast-t40
-    cast-t41
+    cast-item-count
+    cast-truck-count
     same-length
     returns)
