@@ -1,10 +1,10 @@
 // The instance file, read into the table: the head's numbers, the items, and the trucks behind them.
 ghost use mathlib.Core.Path.{_≡_};
-ghost use Prim.Native.Nat.{_-_, _*_, _≤_};
+ghost use Prim.Native.Nat.{_*_, _≤_};
 ghost use lib.ListN.{length};
 ghost use Rattle.meaning.specs.Limits.{stacksAt};
 ghost use Rattle.meaning.specs.Reader.{line, times};
-ghost use Rattle.meaning.specs.Files.{allWithin, itemRanges, itemLine};
+ghost use Rattle.meaning.specs.Files.{itemLine};
 ghost use Rattle.table.specs.Filled.{Bounded};
 ghost use Rattle.lines.specs.Progress.{atStart, WithinFile, ReadInto};
 ghost use Rattle.trucks.specs.Rows.{rows};
@@ -16,11 +16,9 @@ use lines::judged;
 use lines::number_line;
 use lines::stored_line;
 use meaning::Limits;
-use ranges::in_ranges;
+use ranges::LAST_DAY;
+use ranges::item_in_range;
 use table::clear;
-use table::fields::IDE;
-use table::fields::IH;
-use table::fields::IL;
 use table::layout::EXTRA;
 use table::layout::HEAD_WORDS;
 use table::layout::INVENTORY;
@@ -33,51 +31,13 @@ use trucks::read_trucks;
 
 // ---- items
 
-// One less, and 0 for 0: a nesting height is below the height.
-fn one_below(height: u32) -> u32
-    ensures { λ r. ⌜ r ≡ height - 1 ⌝ }
-{
-    if height == 0 { 0 } else { height - 1 }
-}
-
-// Whether an item's fields are in range. Width, nesting height and latest day depend on other fields.
-fn item_in_range(fields: &[u32]) -> bool
-    requires { ⌜ length (now fields) ≡ 16 ⌝ }
-    ensures { λ r. ⌜ r ≡ allWithin (itemRanges (now (fields .entry))) (now (fields .entry)) ⌝ }
-{
-    let length = fields[IL];
-    let nesting = one_below(fields[IH]);
-    let earliest = fields[IDE];
-    // Every field starts at 1, but for nesting height, forced orientation, IDE and IC, which start at 0, and IDL, which starts at IDE.
-    let lows: [u32; 16] = [1, 1, 1, 0, 1, 1, 1, 1, 0, 0, earliest, 1, 1, 1, 1, 0];
-    let highs: [u32; 16] = [
-        20000, // IL
-        length, // IW, up to IL
-        20000, // IH
-        nesting, // nesting height, below IH
-        50000, // IM
-        65535, // stackability code
-        64, // maximal stackability
-        65535, // product
-        2, // forced orientation
-        399, // IDE
-        399, // IDL
-        65535, // plant
-        65535, // plant dock
-        65535, // supplier
-        65535, // supplier dock
-        100000, // IC
-    ];
-    in_ranges(fields, &lows, &highs)
-}
-
 // An item's line.
 fn read_item(file: &[u8], p: Progress, part: &mut [u32]) -> Progress
     requires { ⌜ WithinFile (now file) p × (length (now part) ≡ 16) ⌝ }
     ensures { λ r. ⌜ ReadInto (now (file .entry)) (line itemLine) (λ ns. ns) p r (now (part .exit)) ⌝ }
 {
     let stored = stored_line(file, p, b"item=", ITEM_WORDS, part);
-    let in_range = item_in_range(part);
+    let in_range = item_in_range(part, LAST_DAY);
     judged(stored, in_range)
 }
 

@@ -18,7 +18,8 @@ use Rattle.meaning.proofs.Fields.{ranges-below, range-below}
 use Rattle.lines.specs.declared.Progress.{Progress}
 use Rattle.lines.specs.declared.Progress.the-variants.{Next, WrongForm, OutOfRange}
 use Rattle.lines.specs.Progress.{entriesOf, Going, judgedAs, RefusesLargest, ReadEntries}
-use Rattle.plan.specs.Words.{spliced, rowNumbers}
+use Rattle.ranges.specs.Ranges.{rowNumbers}
+use Rattle.plan.specs.Words.{spliced}
 use Rattle.plan.proofs.Splices.{put-spliced, spliced-there, spliced-first}
 use Rattle.plan.proofs.Rows.{rows-kept}
 

@@ -17,7 +17,8 @@ use Rattle.lines.specs.declared.Progress.the-variants.{Next, WrongForm, OutOfRa
 use Rattle.lines.specs.Progress.{reached, resumed, Going, entriesOf, Sound, ReadInto, ReadEntries}
 use Rattle.lines.proofs.Follow.{onward-same, onward-twice, onward-give, leaves-then}
 use Rattle.lines.proofs.Follow.{onward-reached, past-reader, given-reached, no-refusal, same-resumed, read-has, read-meets}
-use Rattle.plan.specs.Words.{spliced, rowNumbers, oneStack, StackPromise, planWords}
+use Rattle.ranges.specs.Ranges.{rowNumbers}
+use Rattle.plan.specs.Words.{spliced, oneStack, StackPromise, planWords}
 use Rattle.plan.proofs.StackWords.{earlierNumbers, SixFields, earlier-more, loads-more, Stands, stands-none, stands-earlier, stands-more, stack-put}
 
 -- a stack of its two lines

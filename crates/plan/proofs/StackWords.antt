@@ -13,7 +13,8 @@ use Rattle.meaning.specs.Model.{Stack, number}
 use Rattle.meaning.specs.Table.{stackWords, loadEntries}
 use Rattle.meaning.proofs.Lists.{every-append, flatMap-more}
 use Rattle.meaning.proofs.Decode.{length-padded, oneStackWords, length-oneStackWords, length-stackWords}
-use Rattle.plan.specs.Words.{spliced, rowNumbers, withStack, planWords}
+use Rattle.ranges.specs.Ranges.{rowNumbers}
+use Rattle.plan.specs.Words.{spliced, withStack, planWords}
 use Rattle.plan.proofs.Runs.{splice-behind, splice-next, splice-apart, set-splices, splice-padded, splice-lent}
 
 -- ---- one stack more

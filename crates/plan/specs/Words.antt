@@ -1,14 +1,15 @@
 -- The stacks and loads of a plan as they stand in the table, and the plan's lines for an instance of so many items and trucks.
 use mathlib.Core.Path.{_≡_}
 use mathlib.Core.List.{List, [], _∷_, _++_}
-use Prim.Native.Nat.{ℕ, zero, suc, _+_, _*_, _≤_}
-use lib.ListN.{length, getD, take, drop}
+use Prim.Native.Nat.{ℕ, _+_, _*_, _≤_}
+use lib.ListN.{length, take, drop}
 use Rattle.meaning.specs.declared.Limits.{Limits}
 use Rattle.meaning.specs.Lists.{padded}
 use Rattle.meaning.specs.Reader.{Reader, give, line, onward, _>>=_, atEnd}
 use Rattle.meaning.specs.Files.{stackLine, loadLine, stackLines, numberLine, _to_}
 use Rattle.meaning.specs.Model.{Stack}
 use Rattle.meaning.specs.Table.{stackWords, loadEntries}
+use Rattle.ranges.specs.Ranges.{rowNumbers}
 use Rattle.lines.specs.declared.Progress.{Progress}
 use Rattle.lines.specs.declared.Progress.the-variants.{Next}
 use Rattle.lines.specs.Progress.{Going, entriesOf, ReadInto}
@@ -17,11 +18,6 @@ use Rattle.plan.specs.declared.PlanAnswer.{PlanAnswer}
 -- xs with ys in the place of the words from `at` on
 abbrev pub spliced : ℕ → List ℕ → List ℕ → List ℕ
 spliced at ys xs = take at xs ++ (ys ++ drop (at + length ys) xs)
-
--- the numbers of the stacks in the first k rows, the last one first
-unfoldable pub rowNumbers : ℕ → List ℕ → List ℕ
-rowNumbers zero part = []
-rowNumbers (suc k) part = getD part (8 * k) 0 ∷ rowNumbers k part
 
 -- one `stack=` line with its `load=` line, behind others whose numbers are `earlier` and whose loads hold `loaded` entries
 unfoldable pub oneStack : ℕ → ℕ → ℕ → List ℕ → ℕ → Reader Stack

@@ -3,13 +3,13 @@ ghost use mathlib.Core.Path.{_≡_};
 ghost use mathlib.Core.List.{[]};
 ghost use Prim.Native.Nat.{_+_, _*_, _≤_, _<_};
 ghost use lib.ListN.{length};
-ghost use Rattle.meaning.specs.Lists.{listed};
 ghost use Rattle.meaning.specs.Reader.{line};
-ghost use Rattle.meaning.specs.Files.{allWithin, stackRanges, stackLine, loadLine, stackLines};
+ghost use Rattle.meaning.specs.Files.{stackLine, loadLine, stackLines};
 ghost use Rattle.meaning.specs.Table.{largestWord};
 ghost use Rattle.table.specs.Filled.{Bounded};
 ghost use Rattle.lines.specs.Progress.{entriesOf, Sound, ReadInto, ReadEntries};
-ghost use Rattle.plan.specs.Words.{spliced, rowNumbers, StackPromise, planWords, PlanPromise};
+ghost use Rattle.ranges.specs.Ranges.{rowNumbers};
+ghost use Rattle.plan.specs.Words.{spliced, StackPromise, planWords, PlanPromise};
 use lines::Progress;
 use lines::at_end;
 use lines::entries;
@@ -18,38 +18,13 @@ use lines::number_line;
 use lines::stored_line;
 use meaning::Limits;
 use ranges::all_between;
-use ranges::in_ranges;
+use ranges::is_repeated;
+use ranges::stack_in_range;
 use table::clear;
 use table::layout::LOAD_COUNT;
 use table::layout::LOAD_FIRST;
 use table::layout::STACK_FIELDS;
 use table::layout::STACK_WORDS;
-
-// Whether one of the stacks in the first rows has this number, which is the first word of its row. The loop is not left early: without a
-// branch the compiler compares several rows at once.
-fn is_repeated(part: &[u32], rows: usize, number: u32) -> bool
-    requires { ⌜ 8 * rows ≤ length (now part) ⌝ }
-    ensures { λ r. ⌜ r ≡ listed number (rowNumbers rows (now (part .entry))) ⌝ }
-{
-    let mut repeated = false;
-    let mut k: usize = 0;
-    while k < rows {
-        repeated = (number == part[STACK_WORDS * k]) | repeated;
-        k += 1;
-    }
-    repeated
-}
-
-// Whether the fields of a stack's line are in range for so many trucks.
-fn stack_in_range(fields: &[u32], trucks: u32) -> bool
-    requires { ⌜ length (now fields) ≡ 6 ⌝ }
-    ensures { λ r. ⌜ r ≡ allWithin (stackRanges trucks) (now (fields .entry)) ⌝ }
-{
-    // number, truck, copy, x, y, orientation
-    let lows: [u32; 6] = [1, 1, 0, 0, 0, 1];
-    let highs: [u32; 6] = [65535, trucks, 99, 20000, 20000, 2];
-    in_ranges(fields, &lows, &highs)
-}
 
 // The k-th `stack=` line, into the first six words of its row. Its number is to differ from those of the rows before.
 fn read_stack_row(file: &[u8], p: Progress, trucks: u32, k: usize, part: &mut [u32]) -> Progress

@@ -1,15 +1,17 @@
 -- Tests over the words from an index on: what a word decides of them, and how they end.
-use mathlib.Core.Path.{_≡_, refl}
-use mathlib.Core.Bool.{Bool, true, false, _&&_}
+use mathlib.Core.Path.{_≡_, refl, ap}
+use mathlib.Core.Bool.{Bool, true, false, _&&_, _||_}
 use mathlib.Core.List.{List, [], _∷_}
-use Prim.Native.Nat.{ℕ, _+_, _-_, _≤_, _<_}
+use Prim.Native.Nat.{ℕ, _+_, _-_, _*_, _≤_, _<_}
+use native.Mathlib.Numerals.{add-one}
 use native.Mathlib.Omega.{arith}
+use lib.Dec.{eqb}
 use lib.ListN.{length, getD, take, drop, length-drop, drop-of-length-le}
 use lib.Seq.{take-all}
-use Rattle.meaning.specs.Lists.{all, between, listed, distinct}
+use Rattle.meaning.specs.Lists.{all, any, between, listed, distinct}
 use Rattle.meaning.specs.Files.{allWithin}
 use Rattle.meaning.proofs.Lists.{drop-next, drop-back}
-use Rattle.ranges.specs.Ranges.{rangesBetween}
+use Rattle.ranges.specs.Ranges.{rangesBetween, rowNumbers}
 
 -- ---- the words from an index on, and the word before them
 module _ (ws : List ℕ) (i : ℕ) (some : 0 < i) (h : i ≤ length ws) where
@@ -57,3 +59,14 @@ module _ (ws : List ℕ) (i : ℕ) (h : length ws ≤ i) where
       none [] hs = refl
       none (l ∷ ls) [] = refl
       none (l ∷ ls) (h ∷ hs) = refl
+
+-- ---- a stack's number looked for from the first row on
+module _ (part : List ℕ) (number : ℕ) where
+  pub repeated-before : false ≡ listed number (rowNumbers 0 part)
+  unfolding any rowNumbers
+  repeated-before = refl
+
+  pub repeated-next : (k : ℕ) (repeated : Bool) → repeated ≡ listed number (rowNumbers k part)
+      → eqb number (getD part (8 * k) 0) || repeated ≡ listed number (rowNumbers (k + 1) part)
+  unfolding any rowNumbers
+  repeated-next k repeated e = rw add-one (ap (λ b. eqb number (getD part (8 * k) 0) || b) e)

@@ -9,8 +9,11 @@ ghost use Rattle.lines.specs.Progress.{WithinFile, ReadInto};
 ghost use Rattle.trucks.specs.Rows.{rows, dockWords};
 use lines::Progress;
 use lines::counted_line;
-use lines::fields_line;
 use lines::identifiers_line;
+use lines::judged;
+use lines::stored_line;
+use ranges::LAST_DAY;
+use ranges::truck_in_range;
 use table::clear;
 use table::layout::BEHIND_DOCKS;
 use table::layout::DOCK_COUNTS;
@@ -43,31 +46,9 @@ fn read_truck_fields(file: &[u8], p: Progress, part: &mut [u32]) -> Progress
     requires { ⌜ WithinFile (now file) p × (length (now part) ≡ 20) ⌝ }
     ensures { λ r. ⌜ ReadInto (now (file .entry)) (line truckLine) (λ ns. ns) p r (now (part .exit)) ⌝ }
 {
-    // Every field starts at 1, but for TDA, TMM, TF, TC, CM, CJfc, CJfh, EM, EJcr and EJeh, which start at 0.
-    let lows: [u32; 20] = [1, 1, 1, 1, 1, 0, 0, 0, 1, 0, 0, 1, 0, 0, 0, 1, 0, 0, 1, 1];
-    let highs: [u32; 20] = [
-        20000, // TL
-        20000, // TW
-        20000, // TH
-        50000, // TMm
-        65535, // plant
-        399, // TDA
-        50000, // TMM
-        1, // TF
-        100000, // TEM
-        1000000, // TC
-        50000, // CM
-        20000, // CJfm
-        20000, // CJfc
-        20000, // CJfh
-        50000, // EM
-        20000, // EJhr
-        20000, // EJcr
-        20000, // EJeh
-        50000, // EMmr
-        50000, // EMmm
-    ];
-    fields_line(file, p, b"truck=", &lows, &highs, part)
+    let stored = stored_line(file, p, b"truck=", PRODUCTS, part);
+    let in_range = truck_in_range(part, LAST_DAY);
+    judged(stored, in_range)
 }
 
 // All lines of a truck, into its 160 words.

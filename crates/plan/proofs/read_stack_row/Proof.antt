@@ -8,7 +8,8 @@ use lib.ListN.{length}
 use borrow.Rule.Slice.PartMut.{midOf, mid-len}
 use Rattle.meaning.specs.Reader.{line}
 use Rattle.meaning.specs.Files.{stackLine}
-use Rattle.plan.specs.Words.{spliced, rowNumbers}
+use Rattle.ranges.specs.Ranges.{rowNumbers}
+use Rattle.plan.specs.Words.{spliced}
 use Rattle.plan.proofs.Splices.{put-spliced}
 use Rattle.lines.proofs.Follow.{read-within}
 use Rattle.lines.proofs.Judging.{full-read}

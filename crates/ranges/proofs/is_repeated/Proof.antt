@@ -3,11 +3,11 @@ use mathlib.Core.Path.{_≡_}
 use Prim.Native.Nat.{_-_, _≤_}
 use native.Mathlib.Omega.{arith}
 use Rattle.meaning.specs.Lists.{listed}
-use Rattle.plan.specs.Words.{rowNumbers}
+use Rattle.ranges.specs.Ranges.{rowNumbers}
 use borrow.Author.Needs.{needs}
-use Rattle.plan.proofs.Rows.{repeated-before, repeated-next}
-use Rattle.plan.proofs.is_repeated.Statement.{statement}
-use Rattle.plan.proofs.is_repeated.Tie as tie
+use Rattle.ranges.proofs.Scan.{repeated-before, repeated-next}
+use Rattle.ranges.proofs.is_repeated.Statement.{statement}
+use Rattle.ranges.proofs.is_repeated.Tie as tie
 
 abbrev Inv-loop : tie.InvT-loop
 Inv-loop part rows number repeated₀ k₀ repeated k = (k ≤ rows) × (repeated ≡ listed number (rowNumbers k part))

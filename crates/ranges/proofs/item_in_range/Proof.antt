@@ -1,8 +1,8 @@
 -- `item_in_range`: the ends that the code lists are those of the item's ranges, once the highest nesting height is one below the height.
 use borrow.Author.Needs.{needs}
 use Rattle.ranges.specs.Ranges.{rangesBetween}
-use Rattle.instance.proofs.item_in_range.Statement.{statement}
-use Rattle.instance.proofs.item_in_range.Tie as tie
+use Rattle.ranges.proofs.item_in_range.Statement.{statement}
+use Rattle.ranges.proofs.item_in_range.Tie as tie
 
 shared-slice-read-length : tie.Need-shared-slice-read-length
 shared-slice-read-length c = search needs

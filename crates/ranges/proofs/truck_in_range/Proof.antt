@@ -1,8 +1,8 @@
--- The two lists of ends are the ranges of a stack's line.
+-- The two lists of ends are the ranges of a truck's line.
 use borrow.Author.Needs.{needs}
 use Rattle.ranges.specs.Ranges.{rangesBetween}
-use Rattle.plan.proofs.stack_in_range.Statement.{statement}
-use Rattle.plan.proofs.stack_in_range.Tie as tie
+use Rattle.ranges.proofs.truck_in_range.Statement.{statement}
+use Rattle.ranges.proofs.truck_in_range.Tie as tie
 
 slice-aggregate-in-ranges : tie.Need-slice-aggregate-in-ranges
 slice-aggregate-in-ranges c = search needs
@@ -17,7 +17,7 @@ returns : tie.Need-returns
 unfolding rangesBetween
 returns c = c .in-ranges .ensures
 
-pub stack-in-range-spec : {M : Type 1} → statement M
-stack-in-range-spec =
+pub truck-in-range-spec : {M : Type 1} → statement M
+truck-in-range-spec =
     tie.close
     (tie.spec slice-aggregate-in-ranges slice-aggregate-in-ranges-2 in-ranges-requires returns)
