@@ -6,11 +6,11 @@ ghost use Rattle.meaning.specs.Limits.{stacksAt};
 ghost use Rattle.meaning.specs.Reader.{line, times};
 ghost use Rattle.meaning.specs.Files.{itemLine};
 ghost use Rattle.table.specs.Filled.{Bounded};
-ghost use Rattle.lines.specs.declared.Progress.the-variants.{Next};
-ghost use Rattle.lines.specs.Progress.{Sound, ReadInto};
+ghost use Rattle.lines.specs.Progress.{atStart, WithinFile, ReadInto};
 ghost use Rattle.trucks.specs.Rows.{rows};
 ghost use Rattle.instance.specs.Words.{HeadPromise, instanceFile, instanceWords};
 use lines::Progress;
+use lines::START;
 use lines::at_end;
 use lines::judged;
 use lines::number_line;
@@ -33,17 +33,17 @@ use trucks::read_trucks;
 
 // An item's line.
 fn read_item(file: &[u8], p: Progress, part: &mut [u32]) -> Progress
-    requires { ⌜ Sound (now file) p × (length (now part) ≡ 16) ⌝ }
+    requires { ⌜ WithinFile (now file) p × (length (now part) ≡ 16) ⌝ }
     ensures { λ r. ⌜ ReadInto (now (file .entry)) (line itemLine) (λ ns. ns) p r (now (part .exit)) ⌝ }
 {
     let stored = stored_line(file, p, b"item=", ITEM_WORDS, part);
     let in_range = item_in_range(part, LAST_DAY);
-    judged(file, stored, in_range)
+    judged(stored, in_range)
 }
 
 // The items one after another.
 fn read_items(file: &[u8], p: Progress, count: usize, part: &mut [u32]) -> Progress
-    requires { ⌜ Sound (now file) p × (16 * count ≤ length (now part)) ⌝ }
+    requires { ⌜ WithinFile (now file) p × (16 * count ≤ length (now part)) ⌝ }
     ensures { λ r. ⌜ ReadInto (now (file .entry)) (times count (line itemLine)) (rows (length (now (part .entry))) (λ ns. ns)) p r
         (now (part .exit)) ⌝ }
 {
@@ -68,12 +68,12 @@ pub struct HeadAnswer {
 }
 
 // The five lines that the file begins with.
-fn read_head(limits: Limits, file: &[u8], p: Progress, part: &mut [u32]) -> HeadAnswer
-    requires { ⌜ Bounded limits × Sound (now file) p × (length (now part) ≡ 16) ⌝ }
-    ensures { λ r. ⌜ HeadPromise limits (now (file .entry)) p r (now (part .exit)) ⌝ }
+fn read_head(limits: Limits, file: &[u8], part: &mut [u32]) -> HeadAnswer
+    requires { ⌜ Bounded limits × (length (now part) ≡ 16) ⌝ }
+    ensures { λ r. ⌜ HeadPromise limits (now (file .entry)) r (now (part .exit)) ⌝ }
 {
     clear(part);
-    let transport = number_line(file, p, b"transport=", 0, 1000);
+    let transport = number_line(file, START, b"transport=", 0, 1000);
     let p = transport.progress;
     let inventory = number_line(file, p, b"inventory=", 0, 1000);
     let p = inventory.progress;
@@ -88,32 +88,24 @@ fn read_head(limits: Limits, file: &[u8], p: Progress, part: &mut [u32]) -> Head
     part[ITEM_COUNT] = items.value;
     part[TRUCK_COUNT] = trucks.value;
     let progress = trucks.progress;
+    let item_count = items.value as usize;
+    let truck_count = trucks.value as usize;
     HeadAnswer {
         progress,
-        items: items.value as usize,
-        trucks: trucks.value as usize,
+        items: item_count,
+        trucks: truck_count,
     }
 }
 
 // The instance file, into the words before the stacks.
 pub fn read_instance(limits: Limits, file: &[u8], part: &mut [u32]) -> Progress
     requires { ⌜ Bounded limits × (length (now part) ≡ stacksAt limits) ⌝ }
-    ensures { λ r. ⌜ ReadInto (now (file .entry)) (instanceFile limits) (instanceWords limits) (Next 0 0 0) r (now (part .exit)) ⌝ }
+    ensures { λ r. ⌜ ReadInto (now (file .entry)) (instanceFile limits) (instanceWords limits) atStart r (now (part .exit)) ⌝ }
 {
     let trucks_from = trucks_at(limits);
-    let head = read_head(
-        limits,
-        file,
-        Progress::Next(0, 0, 0),
-        &mut part[0..HEAD_WORDS],
-    );
-    let progress = head.progress;
-    let items = read_items(
-        file,
-        progress,
-        head.items,
-        &mut part[HEAD_WORDS..trucks_from],
-    );
-    let trucks = read_trucks(file, items, head.trucks, &mut part[trucks_from..]);
-    at_end(file, trucks)
+    let head = read_head(limits, file, &mut part[0..HEAD_WORDS]);
+    let p = head.progress;
+    let p = read_items(file, p, head.items, &mut part[HEAD_WORDS..trucks_from]);
+    let p = read_trucks(file, p, head.trucks, &mut part[trucks_from..]);
+    at_end(file, p)
 }

@@ -64,6 +64,12 @@ module _ {file : List ℕ} {p : Progress} {key : List ℕ} {least : ℕ} {out₀
     count = count-judged r ok ∙ ap (unlessRefused (judgedAs r ok)) (sym (length-take-le (entriesOf r) out (omega (arith, stored .room))));
   }
 
+-- there is room for the entries that are counted
+pub judged-room : {file : List ℕ} {p : Progress} {key : List ℕ} {least : ℕ} {out₀ : List ℕ} {r : StoredLine} {out : List ℕ}
+    → StoredPromise file p key least out₀ r out → (ok : Bool) → judgedEntriesAs r ok .count ≤ length out₀
+judged-room stored true = stored .room
+judged-room stored false = omega arith
+
 -- a line that fills its words is judged on all of them, and what was stored is what is read
 pub full-read : {file : List ℕ} {p : Progress} {key : List ℕ} {least : ℕ} {out₀ : List ℕ} {r : StoredLine} {out : List ℕ}
     → StoredPromise file p key least out₀ r out → length out ≤ least → (f : Form)

@@ -21,7 +21,7 @@ abbrev pub Key : Type 0
 Key = String
 
 -- ---- how far a file is read. Lines are counted from 0 in the code and from 1 in document 01
--- nothing is read yet
+-- the start of a file: nothing is read yet
 abbrev pub atStart : Progress
 atStart = Next (record { at = 0; line = 0 })
 

@@ -3,16 +3,15 @@
 ghost use mathlib.Core.Path.{_≡_};
 ghost use Prim.Native.Nat.{_-_, _≤_, _<_};
 ghost use lib.ListN.{length};
-ghost use Rattle.meaning.specs.Lists.{Every, padded};
+ghost use Rattle.meaning.specs.Lists.{padded};
 ghost use Rattle.meaning.specs.Text.{bytes};
 ghost use Rattle.meaning.specs.Reader.{line};
-ghost use Rattle.meaning.specs.Files.{fieldsLine, identifiersLine, numberLine, _to_};
+ghost use Rattle.meaning.specs.Files.{identifiersLine, numberLine, _to_};
 ghost use Rattle.meaning.specs.Table.{countedWords, largestWord};
-ghost use Rattle.ranges.specs.Ranges.{rangesBetween};
-ghost use Rattle.lines.specs.Progress.{Key, atStart, reached, resumed, WithinFile, endedAs};
-ghost use Rattle.lines.specs.Progress.{entriesOf, judgedAs, judgedEntriesAs, StoredPromise, ReadInto, ReadEntries};
+ghost use Rattle.lines.specs.Progress.{Key, reached, resumed, WithinFile, endedAs};
+ghost use Rattle.lines.specs.Progress.{entriesOf, judgedAs, judgedEntriesAs, StoredPromise, ReadEntries};
+use ranges::all_between;
 use ranges::are_identifiers;
-use ranges::in_ranges;
 use table::clear;
 use text::ParsedLine;
 use text::parse_line;
@@ -30,21 +29,15 @@ pub enum Progress {
     OutOfRange(usize),
 }
 
+// The start of a file: nothing is read yet.
+pub const START: Progress = Progress::Next(Cursor { at: 0, line: 0 });
+
 // A line whose numbers are stored and not yet judged: how many lines stand before it, the next cursor, and how many numbers it has. Or
 // what was refused, as above.
 pub enum StoredLine {
     Numbers(usize, Cursor, usize),
     WrongForm(usize),
     OutOfRange(usize),
-}
-
-// ---- lines
-
-// The start of a file.
-pub fn start() -> Progress
-    ensures { λ r. ⌜ r ≡ atStart ⌝ }
-{
-    Progress::Next(Cursor { at: 0, line: 0 })
 }
 
 // Stores the numbers of the next line. Their ranges are not judged yet.
@@ -131,32 +124,13 @@ pub fn at_end(file: &[u8], p: Progress) -> Progress
     }
 }
 
-// A line of a fixed number of entries, each with a range of its own.
-pub fn fields_line(
-    file: &[u8],
-    p: Progress,
-    key: &[u8],
-    lows: &[u32],
-    highs: &[u32],
-    out: &mut [u32],
-) -> Progress
-    requires { ⌜ WithinFile (now file) p × (length (now lows) ≡ length (now out)) × (length (now highs) ≡ length (now out))
-        × Every (λ h. h < largestWord) (now highs) ⌝ }
-    ensures { λ r. ⌜ ((k : Key) → bytes k ≡ now (key .entry)
-        → ReadInto (now (file .entry)) (line (fieldsLine k (rangesBetween (now (lows .entry)) (now (highs .entry))))) (λ ns. ns) p r
-        (now (out .exit))) ⌝ }
-{
-    let stored = stored_line(file, p, key, out.len(), out);
-    let in_range = in_ranges(out, lows, highs);
-    judged(stored, in_range)
-}
-
 // A line of distinct identifiers, at most as many as there is room for, with zeros behind them.
 pub fn identifiers_line(file: &[u8], p: Progress, key: &[u8], out: &mut [u32]) -> EntriesAnswer
     requires { ⌜ WithinFile (now file) p ⌝ }
-    ensures { λ r. ⌜ ((k : Key) → bytes k ≡ now (key .entry)
+    ensures says { λ r. ⌜ ((k : Key) → bytes k ≡ now (key .entry)
         → ReadEntries (now (file .entry)) (line (identifiersLine k (length (now (out .entry))))) (padded (length (now (out .entry)))) p r
         (now (out .exit))) ⌝ }
+    ensures room { λ r. ⌜ r .count ≤ length (now (out .entry)) ⌝ }
 {
     clear(out);
     let stored = stored_line(file, p, key, 1, out);
@@ -177,7 +151,7 @@ pub fn counted_line(file: &[u8], p: Progress, key: &[u8], out: &mut [u32]) -> En
     r
 }
 
-// How far the file is read, and the number of the line, which is within its range also after a refusal.
+// How far the file is read, and the number of the line, which is no higher than its range also after a refusal.
 pub struct NumberAnswer {
     pub progress: Progress,
     pub value: u32,
@@ -190,13 +164,10 @@ pub fn number_line(file: &[u8], p: Progress, key: &[u8], low: u32, high: u32) ->
         → reached (now (file .entry)) (r .value) (r .progress) ≡ resumed (now (file .entry)) p (numberLine k (low to high))) ⌝ }
     ensures within { λ r. ⌜ WithinFile (now (file .entry)) (r .progress) × (r .value ≤ high) ⌝ }
 {
-    let lows = [low];
-    let highs = [high];
-    let mut out: [u32; 1] = [0];
-    let progress = fields_line(file, p, key, &lows, &highs, &mut out);
-    let value = match progress {
-        Progress::Next(_) => out[0],
-        _ => 0,
-    };
+    let mut number: [u32; 1] = [0];
+    let stored = stored_line(file, p, key, 1, &mut number);
+    let in_range = all_between(&number, low, high);
+    let progress = judged(stored, in_range);
+    let value = if in_range { number[0] } else { 0 };
     NumberAnswer { progress, value }
 }

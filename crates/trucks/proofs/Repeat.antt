@@ -128,9 +128,9 @@ module _ {A : Type 0} {file : List ℕ} {R : Reader A} {w : A → List ℕ} {siz
 
   module _ {n : ℕ} {p : Progress} {out : List ℕ} {q : Progress} {k : ℕ} (s : Repeat file R (Runs size width w) n p out q k) where
     -- after one more
-    pub next : {r : Progress} {run : List ℕ} → k < n → (lent : ℕ) → lent ≡ width → width * (k + 1) ≤ size → length run ≡ lent
-        → ReadInto file R w q r run → Repeat file R (Runs size width w) n p (putMid (width * k) lent out run) r (k + 1)
-    next {r} {run} h lent e room l a =
+    pub next : {r : Progress} {run : List ℕ} → ReadInto file R w q r run → k < n → (lent : ℕ) → lent ≡ width → width * (k + 1) ≤ size → length run ≡ lent
+        → Repeat file R (Runs size width w) n p (putMid (width * k) lent out run) r (k + 1)
+    next {r} {run} a h lent e room l =
         repeat-next s h a (putMid (width * k) lent out run) (λ vs f g. runs-put f lent run (a .value) e room l (a .holds g))
 
     -- after the last

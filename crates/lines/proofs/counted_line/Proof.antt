@@ -3,9 +3,7 @@ use Prim.Native.Nat.{_-_}
 use mathlib.Core.Path.{_≡_}
 use native.Mathlib.Omega.{arith}
 use lib.ListN.{length, take, drop, length-take, length-drop}
-use Rattle.meaning.specs.Files.{identifiersLine}
-use Rattle.lines.proofs.Keys.{key-of}
-use Rattle.lines.proofs.Judging.{few-counted, counted-entries}
+use Rattle.lines.proofs.Judging.{counted-entries}
 use borrow.Author.Needs.{needs}
 use Rattle.lines.proofs.counted_line.Statement.{statement}
 use Rattle.lines.proofs.counted_line.Tie as tie
@@ -23,12 +21,7 @@ identifiers-line-requires : tie.Need-identifiers-line-requires
 identifiers-line-requires c κs = search needs
 
 cast-out : tie.Need-cast-out
-cast-out c =
-    let call = c .before .before .before in
-    let words = call .before .before .before in
-    let start = words .before .before in
-    let key = key-of (start .args .key .now) (λ n. omega (arith, words .shared-slice-known2 .given n)) in
-    omega (arith, start .pre, few-counted (identifiersLine (key .0) _) (call .identifiers-line .ensures (key .0) (key .1)))
+cast-out c = search needs
 
 slice-write-out : tie.Need-slice-write-out
 slice-write-out c = search needs
@@ -42,7 +35,7 @@ returns c =
     let start = call .before .before .before .before .before in
     let out = start .args .out .now in
     let size : length (take (length out - 1) (drop 1 out)) ≡ length out - 1 = simp (length-take, length-drop) (omega arith) in
-    λ k b. counted-entries (length out - 1) out (omega (arith, start .pre)) (rw size at (call .identifiers-line .ensures k b))
+    λ k b. counted-entries (length out - 1) out (omega (arith, start .pre)) (rw size at (call .identifiers-line .ensures .0 k b))
 
 pub counted-line-spec : {M : Type 1} → statement M
 counted-line-spec =

@@ -7,7 +7,7 @@ use Rattle.meaning.specs.Lists.{padded}
 use Rattle.meaning.specs.Files.{identifiersLine}
 use Rattle.lines.specs.Progress.{entriesOf}
 use Rattle.lines.proofs.Largest.{refuses-identifiers}
-use Rattle.lines.proofs.Judging.{zeros-behind, judged-entries}
+use Rattle.lines.proofs.Judging.{judged-entries, judged-room, zeros-behind}
 use borrow.Author.Needs.{needs}
 use Rattle.lines.proofs.identifiers_line.Statement.{statement}
 use Rattle.lines.proofs.identifiers_line.Tie as tie
@@ -50,13 +50,16 @@ returns c =
     let many = entriesOf (line .stored-line .result) in
     let all : counted .entries .result - 0 ≡ many = omega (arith, counted .entries .ensures) in
     let stored = line .stored-line .ensures in
-    λ k b.
-    let f = identifiersLine k room in
-    rw (c .judged-entries .ensures)
-    (judged-entries stored f (padded room) (stored .says f b refl (omega arith) (refuses-identifiers k room)) (test .are-identifiers .result)
-    (λ has. rw all at (test .are-identifiers .ensures))
-    (λ has. zeros-behind room many _ (omega (arith, stored .room)) (omega arith) (stored .behind has ∙ ap (drop many) (cleared .clear .ensures)))
-    (omega arith))
+    let ok = test .are-identifiers .result in
+    rw (c .judged-entries .ensures) (
+      λ k b.
+          let f = identifiersLine k room in
+          judged-entries stored f (padded room) (stored .says f b refl (omega arith) (refuses-identifiers k room)) ok
+          (λ has. rw all at (test .are-identifiers .ensures))
+          (λ has. zeros-behind room many _ (omega (arith, stored .room)) (omega arith) (stored .behind has ∙ ap (drop many) (cleared .clear .ensures)))
+          (omega arith),
+      omega (arith, judged-room stored ok),
+    )
 
 pub identifiers-line-spec : {M : Type 1} → statement M
 identifiers-line-spec =

@@ -6,7 +6,7 @@ use borrow.Author.Needs.{needs}
 use lib.ListN.{length, replicate, length-set}
 use Rattle.meaning.specs.Reader.{line}
 use Rattle.meaning.specs.Files.{docksLine}
-use Rattle.lines.proofs.Judging.{read-count, few-counted}
+use Rattle.lines.proofs.Judging.{read-count}
 use Rattle.trucks.specs.Rows.{dockWords}
 use Rattle.trucks.proofs.Repeat.{Repeat, repeat-first, repeat-next, repeat-done}
 use Rattle.trucks.proofs.Docks.{Docks, docks-clear, docks-lent, docks-more, docks-words}
@@ -57,11 +57,7 @@ identifiers-line-requires : tie.Need-identifiers-line-requires Inv-loop μ-loop
 identifiers-line-requires c κs = search needs
 
 cast-part : tie.Need-cast-part Inv-loop μ-loop
-cast-part c =
-    let call = c .before .before .before in
-    let turn = call .before .before .before .before .loop in
-    let docks = rw (docks-lent (turn .k) (turn .part) (omega arith)) at (call .identifiers-line .ensures "docks=" refl) in
-    omega (arith, few-counted docksLine docks)
+cast-part c = search needs
 
 mul-part : tie.Need-mul-part Inv-loop μ-loop
 mul-part c = search needs
@@ -81,7 +77,7 @@ loop-again c =
     let call = lent .before in
     let turn = call .before .before .before .before .loop in
     let eight = docks-lent (turn .k) (turn .part) (omega arith) in
-    let docks = rw eight at (call .identifiers-line .ensures "docks=" refl) in (
+    let docks = rw eight at (call .identifiers-line .ensures .0 "docks=" refl) in (
       simp length-set (omega (arith, turn .inv .0, lent .part2 .given)),
       turn .inv .1,
       repeat-next (turn .inv .2) (omega arith) (docks .into) _ (λ ds s g.
