@@ -9,14 +9,13 @@ use Rattle.meaning.specs.Reader.{Outcome, Reader, give, onward, _>>=_, line, ti
 use Rattle.meaning.specs.Files.{numberLine, _to_, itemLine, truckLines, instanceLines}
 use Rattle.meaning.specs.Table.{truckWords}
 use Rattle.lines.specs.declared.Progress.{Progress}
-use Rattle.lines.specs.declared.Progress.the-variants.{Next}
-use Rattle.lines.specs.Progress.{reached, resumed, Going, endedAs, ReadInto}
+use Rattle.lines.specs.Progress.{atStart, reached, resumed, Going, endedAs, ReadInto}
 use Rattle.lines.proofs.Follow.{regroup, past-reader, given-reached, no-refusal, same-resumed, times-count}
 use Rattle.trucks.specs.Rows.{rows}
 use Rattle.instance.specs.declared.HeadAnswer.{HeadAnswer}
 use Rattle.instance.specs.Words.{HeadNumbers, headLines, headRow, HeadPromise, instanceFile, instanceWords}
 use Rattle.instance.proofs.HeadLines.{headNumbers, fromInventory, fromExtra, fromItems, fromTrucks}
-use Rattle.lines.proofs.Ended.{ended-reached, ended-going, ended-sound}
+use Rattle.lines.proofs.Ended.{ended-reached, ended-going, ended-within}
 
 -- ---- the lines behind the head
 abbrev instanceOf : HeadNumbers → List Item → List Truck → Instance
@@ -38,10 +37,11 @@ head-first m n bs =
     regroup (numberLine "items=" (1 to m .items) n bs) (fromTrucks m αT αI αE) afterHead _ (λ items n bs.
     regroup (numberLine "trucks=" (1 to m .trucks) n bs) (λ trucks. give (headNumbers αT αI αE items trucks)) afterHead _ (λ trucks n bs. refl)))))
 
-module _ (m : Limits) (file : List ℕ) (head : HeadAnswer) (items trucks : Progress) (a b c : List ℕ)
-    (h : HeadPromise m file (Next 0 0 0) head a)
-    (i : ReadInto file (times (head .items) (line itemLine)) (rows (16 * m .items) (λ ns. ns)) (head .progress) items b)
-    (t : ReadInto file (times (head .trucks) truckLines) (rows (160 * m .trucks) truckWords) items trucks c) where
+module _ {m : Limits} {file : List ℕ} {head : HeadAnswer} {items trucks : Progress} {a b c : List ℕ} {itemSize truckSize : ℕ}
+    (h : HeadPromise m file head a)
+    (i : ReadInto file (times (head .items) (line itemLine)) (rows itemSize (λ ns. ns)) (head .progress) items b)
+    (t : ReadInto file (times (head .trucks) truckLines) (rows truckSize truckWords) items trucks c)
+    (itemsFill : itemSize ≡ 16 * m .items) (trucksFill : truckSize ≡ 160 * m .trucks) where
   abbrev numbers : HeadNumbers
   numbers = h .into .value
 
@@ -55,13 +55,13 @@ module _ (m : Limits) (file : List ℕ) (head : HeadAnswer) (items trucks : Prog
   head-going : Going items → Going (head .progress)
   head-going g = no-refusal i g
 
-  lines-say : reached file readAs trucks ≡ resumed file (Next 0 0 0) (instanceLines m)
+  lines-say : reached file readAs trucks ≡ resumed file atStart (instanceLines m)
   lines-say =
       let itemLines : ℕ → Reader (List Item) = λ k. times k (line itemLine) in
       let allTruckLines : ℕ → Reader (List Truck) = λ k. times k truckLines in
       sym
       (sym (head-first m 1 file)
-      ∙ past-reader file (Next 0 0 0) (head .progress) numbers (headLines m) afterHead (h .into .says)
+      ∙ past-reader file atStart (head .progress) numbers (headLines m) afterHead (h .into .says)
       ∙ past-reader file (head .progress) items (i .value) (itemLines (numbers .items)) (afterItems numbers)
       (i .says ∙ same-resumed file (head .progress) _ _ (λ g. ap itemLines (h .items g)))
       ∙ past-reader file items trucks (t .value) (allTruckLines (numbers .trucks)) (λ ts. give (instanceOf numbers (i .value) ts))
@@ -83,13 +83,13 @@ module _ (m : Limits) (file : List ℕ) (head : HeadAnswer) (items trucks : Prog
       let row : a ≡ headRow (headNumbers (numbers .αT) (numbers .αI) (numbers .αE) (length (i .value)) (length (t .value))) =
       h .into .holds gh ∙ ap₂ (λ (k l : ℕ). headRow (headNumbers (numbers .αT) (numbers .αI) (numbers .αE) k l)) itemCount truckCount
       in
-      ap₂ (λ (x y : List ℕ). x ++ y) row (ap₂ (λ (x y : List ℕ). x ++ y) (i .holds gi) (t .holds g))
+      rw (← itemsFill, ← trucksFill) (ap₂ (λ (x y : List ℕ). x ++ y) row (ap₂ (λ (x y : List ℕ). x ++ y) (i .holds gi) (t .holds g)))
 
-  pub instance-read : (part : List ℕ) → part ≡ a ++ (b ++ c) → ReadInto file (instanceFile m) (instanceWords m) (Next 0 0 0) (endedAs (length file) trucks) part
+  pub instance-read : (part : List ℕ) → part ≡ a ++ (b ++ c) → ReadInto file (instanceFile m) (instanceWords m) atStart (endedAs (length file) trucks) part
   instance-read part e =
       record {
         value = readAs;
         says = ended-reached readAs file trucks ∙ ap (λ (x : Outcome Instance). onward x atEnd) lines-say;
         holds = λ g. e ∙ words-stand (ended-going file trucks g);
-        sound = ended-sound file trucks (t .sound);
+        within = ended-within file trucks (t .within);
       }

@@ -10,8 +10,7 @@ use Rattle.meaning.specs.Reader.{Reader, give, onward, _>>=_, atEnd}
 use Rattle.meaning.specs.Files.{numberLine, _to_, instanceLines}
 use Rattle.meaning.specs.Model.{Instance, Item}
 use Rattle.meaning.specs.Table.{truckWords}
-use Rattle.lines.specs.declared.Progress.{Progress}
-use Rattle.lines.specs.Progress.{Going, ReadInto}
+use Rattle.lines.specs.Progress.{atStart, Going, ReadInto}
 use Rattle.trucks.specs.Rows.{rows}
 use Rattle.instance.specs.declared.HeadAnswer.{HeadAnswer}
 
@@ -39,8 +38,8 @@ abbrev pub headRow : HeadNumbers → List ℕ
 headRow h = padded itemsAt (h .αT ∷ h .αI ∷ h .αE ∷ h .items ∷ h .trucks ∷ [])
 
 -- what reading the head promises: the counts besides, which are within the limits also after a refusal
-pub record HeadPromise (m : Limits) (file : List ℕ) (p : Progress) (r : HeadAnswer) (part : List ℕ) : Type 0 where
-  pub into : ReadInto file (headLines m) headRow p (r .progress) part
+pub record HeadPromise (m : Limits) (file : List ℕ) (r : HeadAnswer) (part : List ℕ) : Type 0 where
+  pub into : ReadInto file (headLines m) headRow atStart (r .progress) part
   pub items : Going (r .progress) → r .items ≡ into .value .items
   pub trucks : Going (r .progress) → r .trucks ≡ into .value .trucks
   pub itemsWithin : r .items ≤ m .items

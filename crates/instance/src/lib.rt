@@ -1,26 +1,24 @@
 // The instance file, read into the table: the head's numbers, the items, and the trucks behind them.
 ghost use mathlib.Core.Path.{_≡_};
-ghost use Prim.Native.Nat.{_-_, _*_, _≤_};
+ghost use Prim.Native.Nat.{_*_, _≤_};
 ghost use lib.ListN.{length};
 ghost use Rattle.meaning.specs.Limits.{stacksAt};
 ghost use Rattle.meaning.specs.Reader.{line, times};
-ghost use Rattle.meaning.specs.Files.{allWithin, itemRanges, itemLine};
+ghost use Rattle.meaning.specs.Files.{itemLine};
 ghost use Rattle.table.specs.Filled.{Bounded};
-ghost use Rattle.lines.specs.declared.Progress.the-variants.{Next};
-ghost use Rattle.lines.specs.Progress.{Sound, ReadInto};
+ghost use Rattle.lines.specs.Progress.{atStart, WithinFile, ReadInto};
 ghost use Rattle.trucks.specs.Rows.{rows};
 ghost use Rattle.instance.specs.Words.{HeadPromise, instanceFile, instanceWords};
 use lines::Progress;
+use lines::START;
 use lines::at_end;
-use lines::in_ranges;
 use lines::judged;
 use lines::number_line;
 use lines::stored_line;
 use meaning::Limits;
+use ranges::LAST_DAY;
+use ranges::item_in_range;
 use table::clear;
-use table::fields::IDE;
-use table::fields::IH;
-use table::fields::IL;
 use table::layout::EXTRA;
 use table::layout::HEAD_WORDS;
 use table::layout::INVENTORY;
@@ -33,57 +31,19 @@ use trucks::read_trucks;
 
 // ---- items
 
-// One less, and 0 for 0: a nesting height is below the height.
-fn one_below(height: u32) -> u32
-    ensures { λ r. ⌜ r ≡ height - 1 ⌝ }
-{
-    if height == 0 { 0 } else { height - 1 }
-}
-
-// Whether an item's fields are in range. Width, nesting height and latest day depend on other fields.
-fn item_in_range(fields: &[u32]) -> bool
-    requires { ⌜ length (now fields) ≡ 16 ⌝ }
-    ensures { λ r. ⌜ r ≡ allWithin (itemRanges (now (fields .entry))) (now (fields .entry)) ⌝ }
-{
-    let length = fields[IL];
-    let nesting = one_below(fields[IH]);
-    let earliest = fields[IDE];
-    // Every field starts at 1, but for nesting height, forced orientation, IDE and IC, which start at 0, and IDL, which starts at IDE.
-    let lows: [u32; 16] = [1, 1, 1, 0, 1, 1, 1, 1, 0, 0, earliest, 1, 1, 1, 1, 0];
-    let highs: [u32; 16] = [
-        20000, // IL
-        length, // IW, up to IL
-        20000, // IH
-        nesting, // nesting height, below IH
-        50000, // IM
-        65535, // stackability code
-        64, // maximal stackability
-        65535, // product
-        2, // forced orientation
-        399, // IDE
-        399, // IDL
-        65535, // plant
-        65535, // plant dock
-        65535, // supplier
-        65535, // supplier dock
-        100000, // IC
-    ];
-    in_ranges(fields, &lows, &highs)
-}
-
 // An item's line.
 fn read_item(file: &[u8], p: Progress, part: &mut [u32]) -> Progress
-    requires { ⌜ Sound (now file) p × (length (now part) ≡ 16) ⌝ }
+    requires { ⌜ WithinFile (now file) p × (length (now part) ≡ 16) ⌝ }
     ensures { λ r. ⌜ ReadInto (now (file .entry)) (line itemLine) (λ ns. ns) p r (now (part .exit)) ⌝ }
 {
     let stored = stored_line(file, p, b"item=", ITEM_WORDS, part);
-    let in_range = item_in_range(part);
-    judged(file, stored, in_range)
+    let in_range = item_in_range(part, LAST_DAY);
+    judged(stored, in_range)
 }
 
 // The items one after another.
 fn read_items(file: &[u8], p: Progress, count: usize, part: &mut [u32]) -> Progress
-    requires { ⌜ Sound (now file) p × (16 * count ≤ length (now part)) ⌝ }
+    requires { ⌜ WithinFile (now file) p × (16 * count ≤ length (now part)) ⌝ }
     ensures { λ r. ⌜ ReadInto (now (file .entry)) (times count (line itemLine)) (rows (length (now (part .entry))) (λ ns. ns)) p r
         (now (part .exit)) ⌝ }
 {
@@ -108,12 +68,12 @@ pub struct HeadAnswer {
 }
 
 // The five lines that the file begins with.
-fn read_head(limits: Limits, file: &[u8], p: Progress, part: &mut [u32]) -> HeadAnswer
-    requires { ⌜ Bounded limits × Sound (now file) p × (length (now part) ≡ 16) ⌝ }
-    ensures { λ r. ⌜ HeadPromise limits (now (file .entry)) p r (now (part .exit)) ⌝ }
+fn read_head(limits: Limits, file: &[u8], part: &mut [u32]) -> HeadAnswer
+    requires { ⌜ Bounded limits × (length (now part) ≡ 16) ⌝ }
+    ensures { λ r. ⌜ HeadPromise limits (now (file .entry)) r (now (part .exit)) ⌝ }
 {
     clear(part);
-    let transport = number_line(file, p, b"transport=", 0, 1000);
+    let transport = number_line(file, START, b"transport=", 0, 1000);
     let p = transport.progress;
     let inventory = number_line(file, p, b"inventory=", 0, 1000);
     let p = inventory.progress;
@@ -128,32 +88,24 @@ fn read_head(limits: Limits, file: &[u8], p: Progress, part: &mut [u32]) -> Head
     part[ITEM_COUNT] = items.value;
     part[TRUCK_COUNT] = trucks.value;
     let progress = trucks.progress;
+    let item_count = items.value as usize;
+    let truck_count = trucks.value as usize;
     HeadAnswer {
         progress,
-        items: items.value as usize,
-        trucks: trucks.value as usize,
+        items: item_count,
+        trucks: truck_count,
     }
 }
 
 // The instance file, into the words before the stacks.
 pub fn read_instance(limits: Limits, file: &[u8], part: &mut [u32]) -> Progress
     requires { ⌜ Bounded limits × (length (now part) ≡ stacksAt limits) ⌝ }
-    ensures { λ r. ⌜ ReadInto (now (file .entry)) (instanceFile limits) (instanceWords limits) (Next 0 0 0) r (now (part .exit)) ⌝ }
+    ensures { λ r. ⌜ ReadInto (now (file .entry)) (instanceFile limits) (instanceWords limits) atStart r (now (part .exit)) ⌝ }
 {
     let trucks_from = trucks_at(limits);
-    let head = read_head(
-        limits,
-        file,
-        Progress::Next(0, 0, 0),
-        &mut part[0..HEAD_WORDS],
-    );
-    let progress = head.progress;
-    let items = read_items(
-        file,
-        progress,
-        head.items,
-        &mut part[HEAD_WORDS..trucks_from],
-    );
-    let trucks = read_trucks(file, items, head.trucks, &mut part[trucks_from..]);
-    at_end(file, trucks)
+    let head = read_head(limits, file, &mut part[0..HEAD_WORDS]);
+    let p = head.progress;
+    let p = read_items(file, p, head.items, &mut part[HEAD_WORDS..trucks_from]);
+    let p = read_trucks(file, p, head.trucks, &mut part[trucks_from..]);
+    at_end(file, p)
 }

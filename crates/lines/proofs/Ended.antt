@@ -8,7 +8,7 @@ use Rattle.meaning.specs.Reader.{found, wrongForm, onward, atEnd}
 use Rattle.meaning.proofs.Tests.{by-less}
 use Rattle.lines.specs.declared.Progress.{Progress}
 use Rattle.lines.specs.declared.Progress.the-variants.{Next, WrongForm, OutOfRange}
-use Rattle.lines.specs.Progress.{reached, Going, Sound, endedAs}
+use Rattle.lines.specs.Progress.{reached, Going, WithinFile, endedAs}
 
 module _ {A : Type 0} (a : A) where
   -- bytes that are left are a line too many
@@ -23,18 +23,20 @@ module _ {A : Type 0} (a : A) where
 
   pub ended-reached : (file : List ℕ) (p : Progress) → reached file a (endedAs (length file) p) ≡ onward (reached file a p) atEnd
   unfolding onward
-  ended-reached file (Next at n k) =
-      by-less (λ (p : Progress). reached file a p ≡ atEnd a (suc n) (drop at file)) at (length file)
-      (λ left. sym (bytes-left (suc n) (drop at file) (omega (arith, length-drop at file)))) (λ end. sym (none-left (suc n) (drop at file) (drop-of-length-le file end)))
+  ended-reached file (Next c) =
+      let n = suc (c .line) in
+      let rest = drop (c .at) file in
+      by-less (λ (p : Progress). reached file a p ≡ atEnd a n rest) (c .at) (length file)
+      (λ left. sym (bytes-left n rest (omega (arith, length-drop (c .at) file)))) (λ end. sym (none-left n rest (drop-of-length-le file end)))
   ended-reached file (WrongForm n) = refl
   ended-reached file (OutOfRange n) = refl
 
-pub ended-sound : (file : List ℕ) (p : Progress) → Sound file p → Sound file (endedAs (length file) p)
-ended-sound file (Next at n k) h = by-less (Sound file) at (length file) (λ left. omega (arith, h)) (λ end. h)
-ended-sound file (WrongForm n) h = h
-ended-sound file (OutOfRange n) h = h
+pub ended-within : (file : List ℕ) (p : Progress) → WithinFile file p → WithinFile file (endedAs (length file) p)
+ended-within file (Next c) h = by-less (WithinFile file) (c .at) (length file) (λ left. omega (arith, h)) (λ end. h)
+ended-within file (WrongForm n) h = h
+ended-within file (OutOfRange n) h = h
 
 pub ended-going : (file : List ℕ) (p : Progress) → Going (endedAs (length file) p) → Going p
-ended-going file (Next at n k) g = tt
+ended-going file (Next c) g = tt
 ended-going file (WrongForm n) g = g
 ended-going file (OutOfRange n) g = g

@@ -53,7 +53,7 @@ module _ {A : Type 0} (file : List ℕ) where
   -- from what is reached on, the value is known
   pub onward-reached : {B : Type 0} (a : A) (q : Progress) (next : A → Reader B) → onward (reached file a q) next ≡ resumed file q (next a)
   unfolding onward
-  onward-reached a (Next at n k) next = refl
+  onward-reached a (Next c) next = refl
   onward-reached a (WrongForm n) next = refl
   onward-reached a (OutOfRange n) next = refl
 
@@ -61,23 +61,23 @@ module _ {A : Type 0} (file : List ℕ) where
   pub past-reader : {B : Type 0} (p q : Progress) (a : A) (reader : Reader A) (next : A → Reader B) → reached file a q ≡ resumed file p reader
       → resumed file p (reader >>= next) ≡ resumed file q (next a)
   unfolding onward
-  past-reader {B} (Next at n k) q a reader next e = ap {B = Outcome B} (λ x. onward x next) (sym e) ∙ onward-reached a q next
+  past-reader {B} (Next c) q a reader next e = ap {B = Outcome B} (λ x. onward x next) (sym e) ∙ onward-reached a q next
   past-reader {B} (WrongForm n) q a reader next e = ap {B = Outcome B} (λ x. onward x next) (sym e) ∙ onward-reached a q next
   past-reader {B} (OutOfRange n) q a reader next e = ap {B = Outcome B} (λ x. onward x next) (sym e) ∙ onward-reached a q next
 
   -- a block that only gives a value has reached it
   pub given-reached : (a : A) (q : Progress) → resumed file q (give a) ≡ reached file a q
-  given-reached a (Next at n k) = refl
+  given-reached a (Next c) = refl
   given-reached a (WrongForm n) = refl
   given-reached a (OutOfRange n) = refl
 
 -- a refusal stays: where none came out, none came in
 going-before : {B : Type 0} (file : List ℕ) (b : B) (p q : Progress) (R : Reader B) → reached file b q ≡ resumed file p R → Going q → Going p
-going-before file b (Next at n k) q R e g = tt
-going-before file b (WrongForm n) (Next at′ n′ k′) R e g = let z : _≡_ {A = ℕ} 0 1 = cc in omega arith
+going-before file b (Next c) q R e g = tt
+going-before file b (WrongForm n) (Next d) R e g = let z : _≡_ {A = ℕ} 0 1 = cc in omega arith
 going-before file b (WrongForm n) (WrongForm n′) R e g = g
 going-before file b (WrongForm n) (OutOfRange n′) R e g = g
-going-before file b (OutOfRange n) (Next at′ n′ k′) R e g = let z : _≡_ {A = ℕ} 0 1 = cc in omega arith
+going-before file b (OutOfRange n) (Next d) R e g = let z : _≡_ {A = ℕ} 0 1 = cc in omega arith
 going-before file b (OutOfRange n) (WrongForm n′) R e g = g
 going-before file b (OutOfRange n) (OutOfRange n′) R e g = g
 
@@ -87,23 +87,23 @@ no-refusal {file = file} {reader = reader} {p = p} {q = q} i g = going-before fi
 
 -- after a refusal the value does not matter
 pub same-reached : {A : Type 0} (file : List ℕ) (a b : A) (p : Progress) → (Going p → a ≡ b) → reached file a p ≡ reached file b p
-same-reached file a b (Next at n k) h = rw (h tt) refl
+same-reached file a b (Next c) h = rw (h tt) refl
 same-reached file a b (WrongForm n) h = refl
 same-reached file a b (OutOfRange n) h = refl
 
 -- nor does the reader
 pub same-resumed : {A : Type 0} (file : List ℕ) (p : Progress) (reader reader′ : Reader A) → (Going p → reader ≡ reader′)
     → resumed file p reader ≡ resumed file p reader′
-same-resumed {A} file (Next at n k) reader reader′ h = ap (λ (r : Reader A). r (suc n) (drop at file)) (h tt)
+same-resumed {A} file (Next c) reader reader′ h = ap (λ (r : Reader A). r (suc (c .line)) (drop (c .at) file)) (h tt)
 same-resumed file (WrongForm n) reader reader′ h = refl
 same-resumed file (OutOfRange n) reader reader′ h = refl
 
 -- what a reader always leaves is so of what was read
 pub read-has : {A : Type 0} (file : List ℕ) (a : A) (P : A → Type 0) (p q : Progress) (reader : Reader A) → ((n : ℕ) (bs : List ℕ) → Leaves (λ x rest. P x) (reader n bs))
     → reached file a q ≡ resumed file p reader → Going q → P a
-read-has file a P (Next at n k) (Next at′ n′ k′) reader h e g = subst (Leaves (λ x rest. P x)) (sym e) (h (suc n) (drop at file))
-read-has file a P (Next at n k) (WrongForm n′) reader h e g = absurd g
-read-has file a P (Next at n k) (OutOfRange n′) reader h e g = absurd g
+read-has file a P (Next c) (Next d) reader h e g = subst (Leaves (λ x rest. P x)) (sym e) (h (suc (c .line)) (drop (c .at) file))
+read-has file a P (Next c) (WrongForm n′) reader h e g = absurd g
+read-has file a P (Next c) (OutOfRange n′) reader h e g = absurd g
 read-has file a P (WrongForm n) q reader h e g = absurd (going-before file a (WrongForm n) q reader e g)
 read-has file a P (OutOfRange n) q reader h e g = absurd (going-before file a (OutOfRange n) q reader e g)
 
@@ -115,7 +115,7 @@ read-meets file ns f p r e g = read-has file ns (Meets f) p r (line f) (λ n bs.
 pub read-within : {A : Type 0} (file : List ℕ) (reader : Reader A) (words : A → List ℕ) (p r : Progress) (out : List ℕ) (whole : List ℕ → List ℕ)
     → ReadInto file reader words p r out → ReadInto file reader (λ a. whole (words a)) p r (whole out)
 read-within file reader words p r out whole i =
-    record { value = i .value; says = i .says; holds = λ g. ap whole (i .holds g); sound = i .sound }
+    record { value = i .value; says = i .says; holds = λ g. ap whole (i .holds g); within = i .within }
 
 -- ---- the same reader some times over
 module _ {A : Type 0} (R : Reader A) where
@@ -147,7 +147,7 @@ module _ {A : Type 0} (R : Reader A) where
     -- before the first
     pub times-first : (n : ℕ) (p : Progress) → onward (reached file [] p) (more n) ≡ resumed file p (times n R)
     unfolding onward
-    times-first n (Next at l k) = onward-give (times n R (suc l) (drop at file))
+    times-first n (Next c) = onward-give (times n R (suc (c .line)) (drop (c .at) file))
     times-first n (WrongForm l) = refl
     times-first n (OutOfRange l) = refl
 
@@ -163,6 +163,6 @@ module _ {A : Type 0} (R : Reader A) where
     -- after the last
     pub times-done : (vs : List A) (q : Progress) → onward (reached file vs q) (more 0) ≡ reached file vs q
     unfolding onward times
-    times-done vs (Next at l k) = rw (append-nil vs) refl
+    times-done vs (Next c) = rw (append-nil vs) refl
     times-done vs (WrongForm l) = refl
     times-done vs (OutOfRange l) = refl

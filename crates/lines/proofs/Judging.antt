@@ -1,11 +1,10 @@
 -- From a line that is stored to a line that is judged: what the answer then says.
-use mathlib.Core.Path.{_≡_, sym, ap, subst, _∙_}
-use mathlib.Core.Bool.{Bool, true, false}
+use mathlib.Core.Path.{_≡_, refl, sym, ap, _∙_}
+use mathlib.Core.Bool.{Bool, true, false, cond}
 use mathlib.Core.List.{List, [], _∷_, _++_, append-nil}
-use Prim.Native.Nat.{ℕ, suc, _+_, _-_, _≤_, _<_}
-use native.Mathlib.Numerals.{add-one}
+use Prim.Native.Nat.{ℕ, suc, _+_, _-_, _≤_}
 use native.Mathlib.Omega.{arith}
-use lib.ListN.{length, take, drop, set, replicate, length-append, take-append-drop, drop-of-length-le, length-replicate, replicate-append-replicate}
+use lib.ListN.{length, take, drop, set, replicate, take-append-drop, drop-of-length-le, length-replicate, replicate-append-replicate}
 use lib.Seq.{length-take-le, drop-at, take-all}
 use borrow.Rule.Slice.PartMut.{putMid}
 use Rattle.meaning.specs.Lists.{padded}
@@ -14,17 +13,70 @@ use Rattle.meaning.specs.Reader.{Reader, line}
 use Rattle.meaning.specs.Table.{countedWords}
 use Rattle.lines.specs.declared.Progress.{Progress}
 use Rattle.lines.specs.declared.Progress.the-variants.{Next, WrongForm, OutOfRange}
-use Rattle.lines.specs.Progress.{resumed, entriesOf, Going, unjudged, judgedAs, Unpassed, Stored, ReadInto, ReadEntries}
+use Rattle.lines.specs.declared.StoredLine.{StoredLine}
+use Rattle.lines.specs.declared.StoredLine.the-variants.{Numbers, WrongForm as StoredWrongForm, OutOfRange as StoredOutOfRange}
+use Rattle.lines.specs.declared.EntriesAnswer.{EntriesAnswer}
+use Rattle.lines.specs.Progress.{Going, entriesOf, HasNumbers, judgedAs, judgedEntriesAs, JudgedBy, StoredPromise}
+use Rattle.lines.specs.Progress.{unlessRefused, ReadInto, ReadEntries}
+use Rattle.lines.proofs.Follow.{read-meets}
 
--- a line that is not yet passed
-pub unpassed-next : {at n k : ℕ} (file : List ℕ) (p : Progress) → p ≡ Next at n k → Unpassed file p → (n < at) × (at ≤ length file)
-unpassed-next file p e h = subst (Unpassed file) e h
+-- ---- the cases of a stored line
+-- the test decides nothing where the line was refused
+same-judged : (r : StoredLine) (s t : Bool) → (HasNumbers r → s ≡ t) → judgedAs r s ≡ judgedAs r t
+same-judged (Numbers n next k) s t h = ap (judgedAs (Numbers n next k)) (h tt)
+same-judged (StoredWrongForm n) s t h = refl
+same-judged (StoredOutOfRange n) s t h = refl
 
--- there is room for what is stored
-pub stored-room : (least : ℕ) (out₀ out : List ℕ) (q : Progress) → Stored least out₀ out q → entriesOf q ≤ length out₀
-stored-room least out₀ out (Next at n k) h = h .1
-stored-room least out₀ out (WrongForm n) h = omega arith
-stored-room least out₀ out (OutOfRange n) h = omega arith
+-- a line that is passed has its numbers stored
+has-numbers : (r : StoredLine) (ok : Bool) → Going (judgedAs r ok) → HasNumbers r
+has-numbers (Numbers n next k) ok g = tt
+has-numbers (StoredWrongForm n) ok g = g
+has-numbers (StoredOutOfRange n) ok g = g
+
+-- the number of entries that the answer gives
+count-judged : (r : StoredLine) (ok : Bool) → cond ok (entriesOf r) 0 ≡ unlessRefused (judgedAs r ok) (entriesOf r)
+count-judged (Numbers n next k) true = refl
+count-judged (Numbers n next k) false = refl
+count-judged (StoredWrongForm n) true = refl
+count-judged (StoredWrongForm n) false = refl
+count-judged (StoredOutOfRange n) true = refl
+count-judged (StoredOutOfRange n) false = refl
+
+-- ---- a judged line
+-- `test` says that the form's range test was made on the entries, `stand` how these stand in `out`
+module _ {file : List ℕ} {p : Progress} {key : List ℕ} {least : ℕ} {out₀ : List ℕ} {r : StoredLine} {out : List ℕ}
+    (stored : StoredPromise file p key least out₀ r out) (f : Form) (words : List ℕ → List ℕ)
+    (says : JudgedBy f file p r out)
+    (ok : Bool) (test : HasNumbers r → ok ≡ f .fits (take (entriesOf r) out))
+    (stand : HasNumbers r → out ≡ words (take (entriesOf r) out)) where
+  pub judged-read : ReadInto file (line f) words p (judgedAs r ok) out
+  judged-read = record {
+    value = take (entriesOf r) out;
+    says = rw (same-judged r ok (f .fits (take (entriesOf r) out)) test) says;
+    holds = λ g. stand (has-numbers r ok g);
+    within = stored .within ok;
+  }
+
+  pub judged-entries : length out ≡ length out₀ → ReadEntries file (line f) words p (judgedEntriesAs r ok) out
+  unfolding judged-read
+  judged-entries long = record {
+    into = judged-read;
+    count = count-judged r ok ∙ ap (unlessRefused (judgedAs r ok)) (sym (length-take-le (entriesOf r) out (omega (arith, stored .room))));
+  }
+
+-- there is room for the entries that are counted
+pub judged-room : {file : List ℕ} {p : Progress} {key : List ℕ} {least : ℕ} {out₀ : List ℕ} {r : StoredLine} {out : List ℕ}
+    → StoredPromise file p key least out₀ r out → (ok : Bool) → judgedEntriesAs r ok .count ≤ length out₀
+judged-room stored true = stored .room
+judged-room stored false = omega arith
+
+-- a line that fills its words is judged on all of them, and what was stored is what is read
+pub full-read : {file : List ℕ} {p : Progress} {key : List ℕ} {least : ℕ} {out₀ : List ℕ} {r : StoredLine} {out : List ℕ}
+    → StoredPromise file p key least out₀ r out → length out ≤ least → (f : Form) → JudgedBy f file p r out
+    → (ok : Bool) → ok ≡ f .fits out → ReadInto file (line f) (λ ns. ns) p (judgedAs r ok) out
+full-read {r = r} {out = out} stored full f says ok test =
+    let all : HasNumbers r → out ≡ take (entriesOf r) out = λ has. sym (take-all (entriesOf r) out (omega (arith, stored .enough has))) in
+    judged-read stored f (λ ns. ns) says ok (λ has. test ∙ ap (f .fits) (all has)) all
 
 -- so many zeros
 abbrev zerosOf : ℕ → List ℕ
@@ -38,62 +90,32 @@ zeros-behind n k out h l e =
     let rest : drop k out ≡ zerosOf (n - k) = e ∙ ap (drop k) zeros ∙ drop-at (zerosOf k) _ k (length-replicate {A = ℕ} k 0) in
     rw (length-take-le k out (omega arith)) (sym (take-append-drop k out) ∙ ap (λ (w : List ℕ). take k out ++ w) rest)
 
--- the answer after the test, where the form's range test was made on the entries; `words` says how entries that were read stand in `out`
-module _ (file out₀ out : List ℕ) (least : ℕ) (f : Form) (words : List ℕ → List ℕ) (p : Progress) (long : length out ≡ length out₀)
-    (stand : (k : ℕ) → least ≤ k → k ≤ length out₀ → drop k out ≡ drop k out₀ → out ≡ words (take k out)) where
-  by-cases : (q : Progress) (ok : Bool) → unjudged f file out q ≡ resumed file p (line f) → Unpassed file q → Stored least out₀ out q
-      → (Going q → ok ≡ f .fits (take (entriesOf q) out)) → ReadEntries file (line f) words p (judgedAs q ok) out
-  by-cases (Next at n k) true e u s t =
-      record {
-        into =
-            record {
-              value = take k out;
-              says = rw add-one (rw (← t tt) at e);
-              holds = λ g. stand k (s .0) (s .1) (s .2);
-              sound = (omega (arith, u .0), u .1);
-            };
-        count = λ g. sym (length-take-le k out (omega (arith, s .1)));
-      }
-  by-cases (Next at n k) false e u s t =
-      record {
-        into =
-            record { value = []; says = rw (← t tt) at e; holds = λ g. absurd g; sound = omega (arith, u .0, u .1) };
-        count = λ g. absurd g;
-      }
-  by-cases (WrongForm n) ok e u s t = record { into = record { value = []; says = e; holds = λ g. absurd g; sound = u }; count = λ g. absurd g }
-  by-cases (OutOfRange n) ok e u s t = record { into = record { value = []; says = e; holds = λ g. absurd g; sound = u }; count = λ g. absurd g }
+-- ---- entries and their count
+-- it is their number, unless a line was refused
+count-going : (q : Progress) (k : ℕ) → Going q → unlessRefused q k ≡ k
+count-going (Next c) k g = refl
+count-going (WrongForm n) k g = absurd g
+count-going (OutOfRange n) k g = absurd g
 
-  -- as the code has it: the number of entries, the part that is tested, the answer
-  pub judged-entries : (q r : Progress) (ok : Bool) (m : ℕ) → unjudged f file out q ≡ resumed file p (line f) → Unpassed file q → Stored least out₀ out q
-      → m ≡ entriesOf q → ok ≡ f .fits (take (m - 0) out) → r ≡ judgedAs q ok → ReadEntries file (line f) words p r out
-  judged-entries q r ok m e u s c t j =
-      let n : m - 0 ≡ entriesOf q = omega arith in
-      rw j (by-cases q ok e u s (λ g. rw n at t))
+-- and at most as large as theirs
+count-most : (q : Progress) (k most : ℕ) → (Going q → k ≤ most) → unlessRefused q k ≤ most
+count-most (Next c) k most h = h tt
+count-most (WrongForm n) k most h = omega arith
+count-most (OutOfRange n) k most h = omega arith
 
--- ---- a line that fills its words is judged on all of them
-all-stored : (out₀ out : List ℕ) (q : Progress) → Stored (length out) out₀ out q → Going q → take (entriesOf q) out ≡ out
-all-stored out₀ out (Next at n k) s g = take-all k out (s .0)
-all-stored out₀ out (WrongForm n) s g = absurd g
-all-stored out₀ out (OutOfRange n) s g = absurd g
+module _ {file : List ℕ} {reader : Reader (List ℕ)} {words : List ℕ → List ℕ} {p : Progress} {r : EntriesAnswer} {out : List ℕ}
+    (read : ReadEntries file reader words p r out) where
+  pub read-count : Going (r .progress) → r .count ≡ length (read .into .value)
+  read-count g = read .count ∙ count-going (r .progress) (length (read .into .value)) g
 
--- what was stored is what is read
-pub full-read : (file out₀ out : List ℕ) (f : Form) (p q : Progress) (ok : Bool) → length out ≡ length out₀
-    → unjudged f file out q ≡ resumed file p (line f) → Unpassed file q → Stored (length out) out₀ out q → ok ≡ f .fits out
-    → ReadInto file (line f) (λ ns. ns) p (judgedAs q ok) out
-full-read file out₀ out f p q ok long e u s t =
-    by-cases file out₀ out (length out) f (λ ns. ns) p long (λ k least room behind. sym (take-all k out least)) q ok e u s
-    (λ g. t ∙ ap (f .fits) (sym (all-stored out₀ out q s g)))
-    .into
+-- a line has no more entries than its form allows
+module _ {file : List ℕ} (f : Form) {words : List ℕ → List ℕ} {p : Progress} {r : EntriesAnswer} {out : List ℕ}
+    (read : ReadEntries file (line f) words p r out) where
+  pub few-entries : Going (r .progress) → length (read .into .value) ≤ f .most
+  few-entries g = read-meets file (read .into .value) f p (r .progress) (read .into .says) g .most
 
--- ---- identifiers and their count
--- they have room
-pub entries-room : (file : List ℕ) (reader : Reader (List ℕ)) (n : ℕ) (p r : Progress) (out : List ℕ) → ReadEntries file reader (padded n) p r out
-    → entriesOf r ≤ length out
-entries-room file reader n p (Next at l k) out h =
-    let values = h .into .value in
-    omega (arith, h .count tt, ap length (h .into .holds tt), length-append values (zerosOf (n - length values)))
-entries-room file reader n p (WrongForm l) out h = omega arith
-entries-room file reader n p (OutOfRange l) out h = omega arith
+  pub few-counted : r .count ≤ f .most
+  few-counted = rw (read .count) (count-most (r .progress) (length (read .into .value)) (f .most) few-entries)
 
 -- the words behind the first are lent and come back, and the first becomes the count
 counted : (c : ℕ) (out lent : List ℕ) → 1 ≤ length out → set (putMid 1 (length out - 1) out lent) 0 c ≡ c ∷ lent
@@ -103,17 +125,21 @@ counted c (w ∷ out) lent h =
     let none : drop (suc (length out) - 1) out ≡ [] = drop-of-length-le out end in
     ap (λ (l : List ℕ). c ∷ l) (rw none (append-nil lent))
 
-pub counted-entries : (file : List ℕ) (reader : Reader (List ℕ)) (n : ℕ) (p r : Progress) (c : ℕ) (out lent : List ℕ)
-    → 1 ≤ length out → c ≡ entriesOf r → ReadEntries file reader (padded n) p r lent
-    → ReadEntries file reader (countedWords n) p r (set (putMid 1 (length out - 1) out lent) 0 c)
-counted-entries file reader n p r c out lent h e i =
+pub counted-entries : {file : List ℕ} {reader : Reader (List ℕ)} (n : ℕ) {p : Progress} {r : EntriesAnswer} {lent : List ℕ} (out : List ℕ)
+    → 1 ≤ length out → ReadEntries file reader (padded n) p r lent
+    → ReadEntries file reader (countedWords n) p r (set (putMid 1 (length out - 1) out lent) 0 (r .count))
+counted-entries n {r = r} {lent = lent} out h i =
+    let words = i .into .value in
     record {
       into =
           record {
-            value = i .into .value;
+            value = words;
             says = i .into .says;
-            holds = λ g. counted c out lent h ∙ ap (λ (m : ℕ). m ∷ lent) (e ∙ i .count g) ∙ ap (λ (l : List ℕ). length (i .into .value) ∷ l) (i .into .holds g);
-            sound = i .into .sound;
+            holds = λ g.
+                counted (r .count) out lent h
+                ∙ ap (λ (m : ℕ). m ∷ lent) (read-count i g)
+                ∙ ap (λ (l : List ℕ). length words ∷ l) (i .into .holds g);
+            within = i .into .within;
           };
       count = i .count;
     }

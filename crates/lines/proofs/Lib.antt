@@ -1,7 +1,5 @@
 pub mod Follow
 pub mod Largest
-pub mod Keys
-pub mod Scan
 pub mod Storing
 pub mod Judging
 pub mod Number

@@ -1,43 +1,51 @@
 -- The number of a line that has one: what it says and that it lies in its range.
 use mathlib.Core.Path.{_≡_, refl, sym, ap, _∙_}
+use mathlib.Core.Bool.{Bool, true, false}
 use mathlib.Core.List.{List, [], _∷_}
-use Prim.Native.Nat.{ℕ, _≤_}
+use Prim.Native.Nat.{ℕ, suc, _≤_, _<_}
 use native.Mathlib.Omega.{arith}
-use lib.ListN.{getD, List·getD-eq-default}
+use lib.ListN.{length, getD}
+use Rattle.meaning.specs.Lists.{all, between}
+use Rattle.meaning.specs.Text.{bytes}
 use Rattle.meaning.specs.Reader.{give, line}
-use Rattle.meaning.specs.Files.{_to_, fieldsLine, numberLine}
-use Rattle.meaning.proofs.Fields.{field-within}
+use Rattle.meaning.specs.Files.{_to_, allWithin, fieldsLine, numberLine}
+use Rattle.meaning.specs.Table.{largestWord}
+use Rattle.meaning.proofs.Fields.{range-below}
 use Rattle.lines.specs.declared.Progress.{Progress}
-use Rattle.lines.specs.declared.Progress.the-variants.{Next, WrongForm, OutOfRange}
-use Rattle.lines.specs.Progress.{Key, reached, resumed, entriesOf, Going, ReadEntries}
-use Rattle.lines.proofs.Follow.{past-reader, given-reached, same-reached, read-meets}
+use Rattle.lines.specs.declared.StoredLine.{StoredLine}
+use Rattle.lines.specs.declared.StoredLine.the-variants.{Numbers, WrongForm, OutOfRange}
+use Rattle.lines.specs.Progress.{Key, reached, resumed, Going, judgedAs, StoredPromise}
+use Rattle.lines.proofs.Follow.{past-reader, given-reached, same-reached}
+use Rattle.lines.proofs.Judging.{full-read}
+use Rattle.lines.proofs.Largest.{refuses-number}
 
--- a line with entries was not refused
-pub going-entries : (r : Progress) → (entriesOf r ≡ 0 → ⊥) → Going r
-going-entries (Next at n k) h = tt
-going-entries (WrongForm n) h = h refl
-going-entries (OutOfRange n) h = h refl
+-- a line out of range is not passed
+pub out-of-range : (r : StoredLine) (ok : Bool) → ok ≡ false → Going (judgedAs r ok) → ⊥
+out-of-range (Numbers n next k) ok e g = rw e at g
+out-of-range (WrongForm n) ok e g = g
+out-of-range (OutOfRange n) ok e g = g
 
-module _ (file out : List ℕ) (k : Key) (low high : ℕ) (p r : Progress)
-    (read : ReadEntries file (line (fieldsLine k (low to high ∷ []))) (λ ns. ns) p r out) where
-  -- any number that is the line's where it was not refused
-  says : (n : ℕ) → (Going r → n ≡ getD (read .into .value) 0 0) → reached file n r ≡ resumed file p (numberLine k (low to high))
-  unfolding numberLine
-  says n h =
-      let f = fieldsLine k (low to high ∷ []) in
-      same-reached file n (getD (read .into .value) 0 0) r h
-      ∙ sym
-      (past-reader file p r (read .into .value) (line f) (λ ns. give (getD ns 0 0)) (read .into .says) ∙ given-reached file (getD (read .into .value) 0 0) r)
+-- one word: the test of all words is that of the one range
+one-within : (low high : ℕ) (out : List ℕ) → length out ≡ 1 → all (between low high) out ≡ allWithin (low to high ∷ []) out
+unfolding all allWithin
+one-within low high [] one = refl
+one-within low high (n ∷ []) one = refl
+one-within low high (n ∷ m ∷ out) one = absurd (omega arith)
 
-  -- the first word is the number
-  pub number-read : reached file (getD out 0 0) r ≡ resumed file p (numberLine k (low to high))
-  number-read = says (getD out 0 0) (λ g. ap (λ (l : List ℕ). getD l 0 0) (read .into .holds g))
+pub one-most : (low high : ℕ) (out : List ℕ) → all (between low high) out ≡ true → getD out 0 0 ≤ high
+one-most low high [] e = omega arith
+one-most low high (n ∷ out) e = omega (arith, range-below (suc high) low high (n ∷ out) (omega arith) e .0)
 
-  -- without entries, as after a refusal, it is 0
-  pub number-refused : entriesOf r ≡ 0 → reached file 0 r ≡ resumed file p (numberLine k (low to high))
-  number-refused e = says 0 (λ g. sym (List·getD-eq-default (read .into .value) 0 (omega (arith, read .count g))))
-
-  pub number-most : Going r → getD out 0 0 ≤ high
-  number-most g =
-      let m = read-meets file (read .into .value) (fieldsLine k (low to high ∷ [])) p r (read .into .says) g in
-      rw (read .into .holds g) (field-within (low to high ∷ []) (read .into .value) 0 (m .fits) (omega arith) (omega (arith, m .least)) .1)
+-- any number that is the word where the line was not refused
+pub number-says : {file : List ℕ} {p : Progress} {key out₀ : List ℕ} {r : StoredLine} {out : List ℕ} (low high : ℕ) → StoredPromise file p key 1 out₀ r out
+    → length out₀ ≡ 1 → length out ≡ 1 → high < largestWord → (k : Key) → bytes k ≡ key → (ok : Bool) → ok ≡ all (between low high) out
+    → (n : ℕ) → (Going (judgedAs r ok) → n ≡ getD out 0 0) → reached file n (judgedAs r ok) ≡ resumed file p (numberLine k (low to high))
+unfolding numberLine
+number-says {file} {p} {r = r} {out = out} low high stored room one h k b ok test n same =
+    let f = fieldsLine k (low to high ∷ []) in
+    let says = stored .says f b refl (sym room) (refuses-number k low high h) in
+    let read = full-read stored (omega arith) f says ok (test ∙ one-within low high out one) in
+    let value = getD (read .value) 0 0 in
+    let q = judgedAs r ok in
+    same-reached file n value q (λ g. same g ∙ ap (λ (l : List ℕ). getD l 0 0) (read .holds g))
+    ∙ sym (past-reader file p q (read .value) (line f) (λ ns. give (getD ns 0 0)) (read .says) ∙ given-reached file value q)

@@ -3,21 +3,24 @@ use mathlib.Core.Path.{_≡_, refl, sym, ap, subst, _∙_}
 use mathlib.Core.Bool.{Bool, true, false, cond}
 use mathlib.Core.List.{List, [], _∷_, _++_, map}
 use Prim.Native.Nat.{ℕ, suc, _+_, _≤_, _<_}
+use native.Mathlib.Numerals.{add-one}
 use native.Mathlib.Omega.{arith}
 use lib.ListN.{length, take, drop, length-map, length-drop}
 use lib.Seq.{sets, take-at, drop-at, drop-drop}
 use Rattle.meaning.specs.Lists.{Every}
-use Rattle.meaning.specs.Text.{Form, bytes, entries, badRange, countBefore}
-use Rattle.meaning.specs.Reader.{found, outOfRange, atLine, line}
+use Rattle.meaning.specs.Text.{Form, entries, badRange, countBefore}
+use Rattle.meaning.specs.Reader.{Outcome, atLine, line}
 use Rattle.meaning.proofs.Tests.{true≢false}
 use Rattle.meaning.proofs.Lists.{every-map}
 use Rattle.text.specs.declared.ParsedLine.{ParsedLine}
 use Rattle.text.specs.declared.ParsedLine.the-variants.{Next as LineNext, WrongForm as LineRefused}
 use Rattle.text.specs.Words.{word, parsedLine, lineWords}
-use Rattle.text.proofs.Judged.{line-stored, line-refused, line-judged, words-in-front}
+use Rattle.text.proofs.Judged.{LineStored, line-stored, line-refused, line-judged, words-in-front}
+use Rattle.lines.specs.declared.Cursor.{Cursor}
 use Rattle.lines.specs.declared.Progress.{Progress}
 use Rattle.lines.specs.declared.Progress.the-variants.{Next, WrongForm, OutOfRange}
-use Rattle.lines.specs.Progress.{resumed, Sound, unjudged, Unpassed, Stored, RefusesLargest}
+use Rattle.lines.specs.declared.StoredLine.the-variants.{Numbers, WrongForm as StoredWrongForm, OutOfRange as StoredOutOfRange}
+use Rattle.lines.specs.Progress.{reached, WithinFile, RefusesLargest, StoredPromise}
 
 -- ---- words for numbers
 -- what holds of all words holds of each number's word
@@ -32,70 +35,104 @@ same-words (n ∷ ns) h =
     let same : word n ≡ n = omega arith in
     rw (same, same-words ns (h .1))
 
--- so a form that refuses the largest word does the same with words as with numbers
-words-judged : {A : Type 0} (f : Form) → RefusesLargest f → (ns : List ℕ) → length ns ≤ f .most → (taken : List ℕ → A) (refused : A)
-    → cond (f .fits (map word ns)) (taken (map word ns)) refused ≡ cond (f .fits ns) (taken ns) refused
-words-judged {A} f low ns h taken refused = go (f .fits (map word ns)) (f .fits ns) refl refl
-  where
-    go : (s t : Bool) → f .fits (map word ns) ≡ s → f .fits ns ≡ t → cond s (taken (map word ns)) refused ≡ cond t (taken ns) refused
-    go true t p q =
-        let same = same-words ns (of-words _ ns (low (map word ns) (omega (arith, length-map ns word)) p)) in
-        let passed : t ≡ true = sym q ∙ ap (f .fits) (sym same) ∙ p in
-        rw (passed, same)
-    go false true p q =
-        let same = same-words ns (every-map _ _ (λ n k. omega arith) ns (low ns h q)) in
-        absurd (true≢false (sym q ∙ ap (f .fits) (sym same) ∙ p))
-    go false false p q = refl
+-- ---- a line with number n, from 0, that the cursor `next` follows
+module _ (file : List ℕ) (n : ℕ) (next : Cursor) where
+  -- its outcome by the range test
+  abbrev judgedLine : List ℕ → Bool → Outcome (List ℕ)
+  judgedLine ns t = reached file ns (cond t (Next next) (OutOfRange n))
 
--- a line's number does not depend on the test
-at-line : (n : ℕ) (t : Bool) (ns rest : List ℕ) → atLine n (cond t (entries ns rest) badRange) ≡ cond t (found ns (suc n) rest) (outOfRange n)
-unfolding atLine
-at-line n true ns rest = refl
-at-line n false ns rest = refl
+  -- a form that refuses the largest word does the same with words as with numbers
+  words-judged : (f : Form) → RefusesLargest f → (ns : List ℕ) → length ns ≤ f .most
+      → judgedLine (map word ns) (f .fits (map word ns)) ≡ judgedLine ns (f .fits ns)
+  words-judged f low ns h = go (f .fits (map word ns)) (f .fits ns) refl refl
+    where
+      go : (s t : Bool) → f .fits (map word ns) ≡ s → f .fits ns ≡ t → judgedLine (map word ns) s ≡ judgedLine ns t
+      go true t p q =
+          let same = same-words ns (of-words _ ns (low (map word ns) (omega (arith, length-map ns word)) p)) in
+          let passed : t ≡ true = sym q ∙ ap (f .fits) (sym same) ∙ p in
+          rw (passed, same)
+      go false true p q =
+          let same = same-words ns (every-map _ _ (λ n k. omega arith) ns (low ns h q)) in
+          absurd (true≢false (sym q ∙ ap (f .fits) (sym same) ∙ p))
+      go false false p q = refl
 
--- ---- what is promised of an answer r that follows the answer p
-module _ (file key out₀ out : List ℕ) (least : ℕ) (p : Progress) where
-  abbrev pub Answered : Progress → Type 0
-  Answered r =
-      ((f : Form) → bytes (f .key) ≡ key → f .least ≡ least → f .most ≡ length out₀ → RefusesLargest f → unjudged f file out r ≡ resumed file p (line f))
-      × (Unpassed file r × Stored least out₀ out r)
+  -- the reader gives a line its number whatever the test finds
+  at-line : next .line ≡ suc n → (t : Bool) (ns : List ℕ) → judgedLine ns t ≡ atLine (suc n) (cond t (entries ns (drop (next .at) file)) badRange)
+  unfolding atLine
+  at-line e true ns = rw e
+  at-line e false ns = refl
 
-  -- a refusal that came in goes out
-  pub refused-form : {n : ℕ} → p ≡ WrongForm n → Sound file p → Answered (WrongForm n)
-  refused-form e h = ((λ f k l m low. rw e), (subst (Sound file) e h, tt))
+-- ---- what is promised of the line that follows p
+-- a refusal that came in goes out
+module _ {file key out₀ out : List ℕ} {least n : ℕ} {p : Progress} where
+  pub refused-form : p ≡ WrongForm n → WithinFile file p → StoredPromise file p key least out₀ (StoredWrongForm n) out
+  refused-form e h = record {
+    says = λ f k l m low. rw e;
+    within = λ ok. subst (WithinFile file) e h;
+    room = omega arith;
+    enough = λ none. absurd none;
+    behind = λ none. absurd none;
+  }
 
-  pub refused-range : {n : ℕ} → p ≡ OutOfRange n → Sound file p → Answered (OutOfRange n)
-  refused-range e h = ((λ f k l m low. rw e), (subst (Sound file) e h, tt))
+  pub refused-range : p ≡ OutOfRange n → WithinFile file p → StoredPromise file p key least out₀ (StoredOutOfRange n) out
+  refused-range e h = record {
+    says = λ f k l m low. rw e;
+    within = λ ok. subst (WithinFile file) e h;
+    room = omega arith;
+    enough = λ none. absurd none;
+    behind = λ none. absurd none;
+  }
 
-  module _ (at n k : ℕ) (before : p ≡ Next at n k) (sound : Sound file p) (l : ParsedLine)
-      (parsed : l ≡ parsedLine key least (length out₀) at (drop at file)) where
-    -- the line is wrong in form
-    pub line-wrong : l ≡ LineRefused → Answered (WrongForm n)
-    unfolding line atLine
-    line-wrong e =
-        let within = subst (Sound file) before sound in
-        ((λ f a b m low. rw (before, line-refused f a b m (drop at file) at (sym parsed ∙ e))), (omega arith, tt))
+module _ (file key out₀ : List ℕ) (least : ℕ) (p : Progress) (here : Cursor) (before : p ≡ Next here) (within : WithinFile file p) (l : ParsedLine)
+    (parsed : l ≡ parsedLine key least (length out₀) (here .at) (drop (here .at) file)) where
+  -- the line is wrong in form
+  pub line-wrong : {out : List ℕ} → l ≡ LineRefused → StoredPromise file p key least out₀ (StoredWrongForm (here .line)) out
+  unfolding line atLine
+  line-wrong e =
+      let inside = subst (WithinFile file) before within in
+      record {
+        says = λ f k b m low. rw (before, line-refused f k b m (drop (here .at) file) (here .at) (sym parsed ∙ e));
+        within = λ ok. omega arith;
+        room = omega arith;
+        enough = λ none. absurd none;
+        behind = λ none. absurd none;
+      }
+
+  module _ {c m : ℕ} (taken : l ≡ LineNext c m) where
+    -- the parsed line
+    abbrev lineStored : LineStored key least (length out₀) (here .at) (drop (here .at) file) c m
+    lineStored = line-stored key least (length out₀) (here .at) (drop (here .at) file) c m (sym parsed ∙ taken)
+
+    -- no more lines than bytes, with this one
+    pub next-within : (here .line + 1 ≤ c) × (c ≤ length file)
+    next-within =
+        let inside = subst (WithinFile file) before within in
+        (omega (arith, lineStored .onward), omega (arith, lineStored .inside, length-drop (here .at) file))
 
     -- its numbers are stored
-    pub line-taken : {c m : ℕ} → l ≡ LineNext c m → out ≡ sets out₀ 0 (lineWords key (length out₀) (drop at file)) → Answered (Next c n m)
+    pub line-taken : (out : List ℕ) → out ≡ sets out₀ 0 (lineWords key (length out₀) (drop (here .at) file))
+        → StoredPromise file p key least out₀ (Numbers (here .line) (record { at = c; line = here .line + 1 }) m) out
     unfolding line atLine
-    line-taken {c} {m} e o =
-        let within = subst (Sound file) before sound in
-        let s = line-stored key least (length out₀) at (drop at file) c m (sym parsed ∙ e) in
+    line-taken out o =
+        let s = lineStored in
+        let n = here .line in
+        let bs = drop (here .at) file in
+        let next : Cursor = record { at = c; line = n + 1 } in
         let front : out ≡ map word (s .ns) ++ drop m out₀ = o ∙ words-in-front out₀ s in
         let many : length (map word (s .ns)) ≡ m = length-map (s .ns) word ∙ s .many in
         let words : take m out ≡ map word (s .ns) = ap (take m) front ∙ take-at (map word (s .ns)) (drop m out₀) m many in
-        let end = suc (countBefore 10 (drop at file)) in
-        let place : at + end ≡ c = omega (arith, s .next) in
-        let left : drop end (drop at file) ≡ drop c file = drop-drop end at file ∙ ap (λ (i : ℕ). drop i file) place in (
-          (λ f a b d low.
-              let judged = line-judged f a b d (drop at file) s ∙ ap (λ (rest : List ℕ). cond (f .fits (s .ns)) (entries (s .ns) rest) badRange) left in
-              rw words (words-judged f low (s .ns) (omega (arith, s .many, s .room)) (λ ws. found ws (suc (suc n)) (drop c file)) (outOfRange (suc n)))
-              ∙ sym (at-line (suc n) (f .fits (s .ns)) (s .ns) (drop c file))
+        let end = suc (countBefore 10 bs) in
+        let place : here .at + end ≡ c = omega (arith, s .next) in
+        let left : drop end bs ≡ drop c file = drop-drop end (here .at) file ∙ ap (λ (i : ℕ). drop i file) place in
+        record {
+          says = λ f k b d low.
+              let judged = line-judged f k b d bs s ∙ ap (λ (rest : List ℕ). cond (f .fits (s .ns)) (entries (s .ns) rest) badRange) left in
+              rw words (words-judged file n next f low (s .ns) (omega (arith, s .many, s .room)))
+              ∙ at-line file n next (add-one n) (f .fits (s .ns)) (s .ns)
               ∙ ap (atLine (suc n)) (sym judged)
-              ∙ rw before refl),
-          (
-            (omega (arith, s .onward), omega (arith, s .inside, length-drop at file)),
-            (s .enough, s .room, ap (drop m) front ∙ drop-at (map word (s .ns)) (drop m out₀) m many),
-          ),
-        )
+              ∙ rw before refl;
+          within = elim [ true ↦ next-within | false ↦ omega (arith, next-within) ];
+          room = s .room;
+          enough = λ has. s .enough;
+          behind = λ has. ap (drop m) front ∙ drop-at (map word (s .ns)) (drop m out₀) m many;
+        }

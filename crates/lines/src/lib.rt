@@ -1,129 +1,110 @@
 // One line after another: each is stored, then judged by its form's ranges. Every function takes the answer so far and returns the next
 // one; a refusal that comes in goes out unchanged, so callers need no branches.
 ghost use mathlib.Core.Path.{_≡_};
-ghost use mathlib.Core.Bool.{_&&_};
 ghost use Prim.Native.Nat.{_-_, _≤_, _<_};
 ghost use lib.ListN.{length};
-ghost use Rattle.meaning.specs.Lists.{Every, all, between, distinct, padded};
-ghost use Rattle.meaning.specs.Text.{Form, bytes};
+ghost use Rattle.meaning.specs.Lists.{padded};
+ghost use Rattle.meaning.specs.Text.{bytes};
 ghost use Rattle.meaning.specs.Reader.{line};
-ghost use Rattle.meaning.specs.Files.{allWithin, fieldsLine, identifiersLine, numberLine, _to_};
+ghost use Rattle.meaning.specs.Files.{identifiersLine, numberLine, _to_};
 ghost use Rattle.meaning.specs.Table.{countedWords, largestWord};
-ghost use Rattle.lines.specs.Progress.{Key, reached, resumed, entriesOf, Sound, unjudged, judgedAs};
-ghost use Rattle.lines.specs.Progress.{endedAs, Unpassed, Stored, RefusesLargest, ranges, ReadEntries};
+ghost use Rattle.lines.specs.Progress.{Key, reached, resumed, WithinFile, endedAs};
+ghost use Rattle.lines.specs.Progress.{entriesOf, judgedAs, judgedEntriesAs, StoredPromise, ReadEntries};
+use ranges::all_between;
+use ranges::are_identifiers;
 use table::clear;
-use table::is_listed;
 use text::ParsedLine;
 use text::parse_line;
 
-// How far a file is read: the place of the next line, how many lines are passed and how many entries the last of them has; or how many
-// lines stand before the first bad one, which is wrong in form or out of range. Between `stored_line` and `judged` the last line counts
-// as not passed yet, though its entries are given.
+// Where the next line begins, and how many lines stand before it.
+pub struct Cursor {
+    pub at: usize,
+    pub line: usize,
+}
+
+// How far a file is read: the next cursor; or how many lines stand before the first bad one, which is wrong in form or out of range.
 pub enum Progress {
-    Next(usize, usize, usize),
+    Next(Cursor),
     WrongForm(usize),
     OutOfRange(usize),
 }
 
-// ---- tests of ranges. Most lines pass them, so the loops are not left early: without branches the compiler tests several words at once
+// The start of a file: nothing is read yet.
+pub const START: Progress = Progress::Next(Cursor { at: 0, line: 0 });
 
-// Whether each word lies in its range.
-pub fn in_ranges(words: &[u32], lows: &[u32], highs: &[u32]) -> bool
-    requires { ⌜ (length (now words) ≤ length (now lows)) × (length (now words) ≤ length (now highs)) ⌝ }
-    ensures { λ r. ⌜ r ≡ allWithin (ranges (now (lows .entry)) (now (highs .entry))) (now (words .entry)) ⌝ }
-{
-    let mut inside = true;
-    let mut i = words.len();
-    while 0 < i {
-        i -= 1;
-        inside = ((lows[i] <= words[i]) & (words[i] <= highs[i])) & inside;
-    }
-    inside
+// A line whose numbers are stored and not yet judged: how many lines stand before it, the next cursor, and how many numbers it has. Or
+// what was refused, as above.
+pub enum StoredLine {
+    Numbers(usize, Cursor, usize),
+    WrongForm(usize),
+    OutOfRange(usize),
 }
 
-// Whether all words lie in one range.
-pub fn all_between(words: &[u32], low: u32, high: u32) -> bool
-    ensures { λ r. ⌜ r ≡ all (between low high) (now (words .entry)) ⌝ }
-{
-    let mut inside = true;
-    let mut i = words.len();
-    while 0 < i {
-        i -= 1;
-        inside = ((low <= words[i]) & (words[i] <= high)) & inside;
-    }
-    inside
-}
-
-// Whether no word is listed twice.
-fn are_distinct(words: &[u32]) -> bool
-    ensures { λ r. ⌜ r ≡ distinct (now (words .entry)) ⌝ }
-{
-    let mut i = 0;
-    while i < words.len() {
-        let next = i + 1;
-        if is_listed(&words[next..], words[i]) {
-            return false;
-        }
-        i = next;
-    }
-    true
-}
-
-// "Entries are identifiers, distinct in their line".
-fn are_identifiers(words: &[u32]) -> bool
-    ensures { λ r. ⌜ r ≡ (all (between 1 65535) (now (words .entry)) && distinct (now (words .entry))) ⌝ }
-{
-    all_between(words, 1, 65535) & are_distinct(words)
-}
-
-// ---- lines
-
-// How many entries the last line has; none after a refusal.
-pub fn entries(p: Progress) -> usize
-    ensures { λ r. ⌜ r ≡ entriesOf p ⌝ }
+// Stores the numbers of the next line. Their ranges are not judged yet.
+pub fn stored_line(
+    file: &[u8],
+    p: Progress,
+    key: &[u8],
+    least: usize,
+    out: &mut [u32],
+) -> StoredLine
+    requires { ⌜ WithinFile (now file) p ⌝ }
+    ensures { λ r. ⌜ StoredPromise (now (file .entry)) p (now (key .entry)) least (now (out .entry)) r (now (out .exit)) ⌝ }
 {
     match p {
-        Progress::Next(_, _, count) => count,
-        Progress::WrongForm(_) => 0,
-        Progress::OutOfRange(_) => 0,
-    }
-}
-
-// Stores the numbers of the next line. Their ranges are not judged yet, and the line is not yet passed.
-pub fn stored_line(file: &[u8], p: Progress, key: &[u8], least: usize, out: &mut [u32]) -> Progress
-    requires { ⌜ Sound (now file) p ⌝ }
-    ensures says { λ r. ⌜ ((f : Form) → bytes (f .key) ≡ now (key .entry) → f .least ≡ least → f .most ≡ length (now (out .entry))
-        → RefusesLargest f → unjudged f (now (file .entry)) (now (out .exit)) r ≡ resumed (now (file .entry)) p (line f)) ⌝ }
-    ensures unpassed { λ r. ⌜ Unpassed (now (file .entry)) r ⌝ }
-    ensures stored { λ r. ⌜ Stored least (now (out .entry)) (now (out .exit)) r ⌝ }
-{
-    match p {
-        Progress::Next(at, lines, _) => match parse_line(file, at, key, least, out) {
-            ParsedLine::Next(next, count) => Progress::Next(next, lines, count),
-            ParsedLine::WrongForm => Progress::WrongForm(lines),
+        Progress::Next(here) => match parse_line(file, here.at, key, least, out) {
+            ParsedLine::Next(at, count) => {
+                let line = here.line + 1;
+                StoredLine::Numbers(here.line, Cursor { at, line }, count)
+            }
+            ParsedLine::WrongForm => StoredLine::WrongForm(here.line),
         },
-        Progress::WrongForm(lines) => Progress::WrongForm(lines),
-        Progress::OutOfRange(lines) => Progress::OutOfRange(lines),
+        Progress::WrongForm(line) => StoredLine::WrongForm(line),
+        Progress::OutOfRange(line) => StoredLine::OutOfRange(line),
     }
 }
 
-// The stored line is passed where it is in range. A line of wrong form was refused before. (The file is named for the promise that
-// the count of lines stays within its bytes.)
-pub fn judged(file: &[u8], p: Progress, in_range: bool) -> Progress
-    requires { ⌜ Unpassed (now file) p ⌝ }
-    ensures { λ r. ⌜ r ≡ judgedAs p in_range ⌝ }
+// How many numbers are stored; none after a refusal.
+pub fn entries(stored: StoredLine) -> usize
+    ensures { λ r. ⌜ r ≡ entriesOf stored ⌝ }
 {
-    match p {
-        Progress::Next(at, lines, count) => {
+    match stored {
+        StoredLine::Numbers(_, _, count) => count,
+        StoredLine::WrongForm(_) => 0,
+        StoredLine::OutOfRange(_) => 0,
+    }
+}
+
+// The stored line is passed where it is in range. A line of wrong form was refused before.
+pub fn judged(stored: StoredLine, in_range: bool) -> Progress
+    ensures { λ r. ⌜ r ≡ judgedAs stored in_range ⌝ }
+{
+    match stored {
+        StoredLine::Numbers(line, next, _) => {
             if in_range {
-                Progress::Next(at, lines + 1, count)
+                Progress::Next(next)
             } else {
-                Progress::OutOfRange(lines)
+                Progress::OutOfRange(line)
             }
         }
-        Progress::WrongForm(lines) => Progress::WrongForm(lines),
-        Progress::OutOfRange(lines) => Progress::OutOfRange(lines),
+        StoredLine::WrongForm(line) => Progress::WrongForm(line),
+        StoredLine::OutOfRange(line) => Progress::OutOfRange(line),
     }
+}
+
+// How far the file is read, and how many entries the last line has; none after a refusal.
+pub struct EntriesAnswer {
+    pub progress: Progress,
+    pub count: usize,
+}
+
+// The same with the number of entries.
+pub fn judged_entries(stored: StoredLine, in_range: bool) -> EntriesAnswer
+    ensures { λ r. ⌜ r ≡ judgedEntriesAs stored in_range ⌝ }
+{
+    let progress = judged(stored, in_range);
+    let count = if in_range { entries(stored) } else { 0 };
+    EntriesAnswer { progress, count }
 }
 
 // The end of the file: a line too many is wrong in form.
@@ -131,66 +112,46 @@ pub fn at_end(file: &[u8], p: Progress) -> Progress
     ensures { λ r. ⌜ r ≡ endedAs (length (now (file .entry))) p ⌝ }
 {
     match p {
-        Progress::Next(at, lines, count) => {
-            if at < file.len() {
-                Progress::WrongForm(lines)
+        Progress::Next(here) => {
+            if here.at < file.len() {
+                Progress::WrongForm(here.line)
             } else {
-                Progress::Next(at, lines, count)
+                Progress::Next(here)
             }
         }
-        Progress::WrongForm(lines) => Progress::WrongForm(lines),
-        Progress::OutOfRange(lines) => Progress::OutOfRange(lines),
+        Progress::WrongForm(line) => Progress::WrongForm(line),
+        Progress::OutOfRange(line) => Progress::OutOfRange(line),
     }
 }
 
-// A line of a fixed number of entries, each with a range of its own.
-pub fn fields_line(
-    file: &[u8],
-    p: Progress,
-    key: &[u8],
-    lows: &[u32],
-    highs: &[u32],
-    out: &mut [u32],
-) -> Progress
-    requires { ⌜ Sound (now file) p × (length (now lows) ≡ length (now out)) × (length (now highs) ≡ length (now out))
-        × Every (λ h. h < largestWord) (now highs) ⌝ }
-    ensures { λ r. ⌜ ((k : Key) → bytes k ≡ now (key .entry)
-        → ReadEntries (now (file .entry)) (line (fieldsLine k (ranges (now (lows .entry)) (now (highs .entry))))) (λ ns. ns) p r
-        (now (out .exit))) ⌝ }
-{
-    let stored = stored_line(file, p, key, out.len(), out);
-    let count = entries(stored);
-    let in_range = in_ranges(&out[0..count], lows, highs);
-    judged(file, stored, in_range)
-}
-
 // A line of distinct identifiers, at most as many as there is room for, with zeros behind them.
-pub fn identifiers_line(file: &[u8], p: Progress, key: &[u8], out: &mut [u32]) -> Progress
-    requires { ⌜ Sound (now file) p ⌝ }
-    ensures { λ r. ⌜ ((k : Key) → bytes k ≡ now (key .entry)
+pub fn identifiers_line(file: &[u8], p: Progress, key: &[u8], out: &mut [u32]) -> EntriesAnswer
+    requires { ⌜ WithinFile (now file) p ⌝ }
+    ensures says { λ r. ⌜ ((k : Key) → bytes k ≡ now (key .entry)
         → ReadEntries (now (file .entry)) (line (identifiersLine k (length (now (out .entry))))) (padded (length (now (out .entry)))) p r
         (now (out .exit))) ⌝ }
+    ensures room { λ r. ⌜ r .count ≤ length (now (out .entry)) ⌝ }
 {
     clear(out);
     let stored = stored_line(file, p, key, 1, out);
     let count = entries(stored);
     let in_range = are_identifiers(&out[0..count]);
-    judged(file, stored, in_range)
+    judged_entries(stored, in_range)
 }
 
 // The same behind the number of entries.
-pub fn counted_line(file: &[u8], p: Progress, key: &[u8], out: &mut [u32]) -> Progress
-    requires { ⌜ Sound (now file) p × (1 ≤ length (now out)) × (length (now out) ≤ 65) ⌝ }
+pub fn counted_line(file: &[u8], p: Progress, key: &[u8], out: &mut [u32]) -> EntriesAnswer
+    requires { ⌜ WithinFile (now file) p × (1 ≤ length (now out)) × (length (now out) ≤ 65) ⌝ }
     ensures { λ r. ⌜ ((k : Key) → bytes k ≡ now (key .entry)
         → ReadEntries (now (file .entry)) (line (identifiersLine k (length (now (out .entry)) - 1)))
         (countedWords (length (now (out .entry)) - 1)) p r (now (out .exit))) ⌝ }
 {
     let r = identifiers_line(file, p, key, &mut out[1..]);
-    out[0] = entries(r) as u32;
+    out[0] = r.count as u32;
     r
 }
 
-// How far the file is read, and the number of the line, which is within its range also after a refusal.
+// How far the file is read, and the number of the line, which is no higher than its range also after a refusal.
 pub struct NumberAnswer {
     pub progress: Progress,
     pub value: u32,
@@ -198,20 +159,15 @@ pub struct NumberAnswer {
 
 // A line with one number.
 pub fn number_line(file: &[u8], p: Progress, key: &[u8], low: u32, high: u32) -> NumberAnswer
-    requires { ⌜ Sound (now file) p × (high < largestWord) ⌝ }
+    requires { ⌜ WithinFile (now file) p × (high < largestWord) ⌝ }
     ensures says { λ r. ⌜ ((k : Key) → bytes k ≡ now (key .entry)
         → reached (now (file .entry)) (r .value) (r .progress) ≡ resumed (now (file .entry)) p (numberLine k (low to high))) ⌝ }
-    ensures sound { λ r. ⌜ Sound (now (file .entry)) (r .progress) × (r .value ≤ high) ⌝ }
+    ensures within { λ r. ⌜ WithinFile (now (file .entry)) (r .progress) × (r .value ≤ high) ⌝ }
 {
-    let lows = [low];
-    let highs = [high];
-    let mut out: [u32; 1] = [0];
-    let progress = fields_line(file, p, key, &lows, &highs, &mut out);
-    if entries(progress) == 0 {
-        return NumberAnswer { progress, value: 0 };
-    }
-    NumberAnswer {
-        progress,
-        value: out[0],
-    }
+    let mut number: [u32; 1] = [0];
+    let stored = stored_line(file, p, key, 1, &mut number);
+    let in_range = all_between(&number, low, high);
+    let progress = judged(stored, in_range);
+    let value = if in_range { number[0] } else { 0 };
+    NumberAnswer { progress, value }
 }

@@ -1,8 +1,9 @@
 -- The two lines of a stack, from what is stored and tested to what is read.
 use mathlib.Core.Path.{_≡_, refl, sym, ap, _∙_}
-use mathlib.Core.Bool.{Bool, true, false, not, _&&_}
+use mathlib.Core.Bool.{Bool, true, false, cond, not, _&&_}
 use mathlib.Core.List.{List}
 use Prim.Native.Nat.{ℕ, _+_, _-_, _*_, _≤_, _<_}
+use native.Mathlib.Nat.{sub-zero}
 use native.Mathlib.Omega.{arith}
 use borrow.Author.Tests.{leb-true}
 use lib.Dec.{leb}
@@ -16,9 +17,11 @@ use Rattle.meaning.specs.Model.{stackNumber}
 use Rattle.meaning.proofs.Tests.{and-reads}
 use Rattle.meaning.proofs.Fields.{ranges-below, range-below}
 use Rattle.lines.specs.declared.Progress.{Progress}
-use Rattle.lines.specs.declared.Progress.the-variants.{Next, WrongForm, OutOfRange}
-use Rattle.lines.specs.Progress.{entriesOf, Going, judgedAs, RefusesLargest, ReadEntries}
-use Rattle.plan.specs.Words.{spliced, rowNumbers}
+use Rattle.lines.specs.declared.EntriesAnswer.{EntriesAnswer}
+use Rattle.lines.specs.Progress.{Going, RefusesLargest, ReadEntries}
+use Rattle.lines.proofs.Judging.{read-count}
+use Rattle.ranges.specs.Ranges.{rowNumbers}
+use Rattle.plan.specs.Words.{spliced}
 use Rattle.plan.proofs.Splices.{put-spliced, spliced-there, spliced-first}
 use Rattle.plan.proofs.Rows.{rows-kept}
 
@@ -30,6 +33,14 @@ stack-refuses-largest trucks earlier h ns l e =
 pub load-refuses-largest : (most items loaded : ℕ) → items < 4294967295 → RefusesLargest (loadLine most items loaded)
 load-refuses-largest most items loaded h ns l e =
     range-below _ 1 items ns h (and-reads (all (between 1 items) ns) (leb (loaded + length ns) most) .0 e .0)
+
+-- ---- two tests, of which the second is made where the first holds
+module _ {ok a : Bool} (b : Bool) where
+  pub both-made : a ≡ true → ok ≡ b → ok ≡ (a && b)
+  both-made h e = rw h e
+
+  pub one-made : a ≡ false → ok ≡ a → ok ≡ (a && b)
+  one-made h e = rw h (e ∙ h)
 
 -- ---- a stack's row
 -- the test as it is made on the words, where the row was lent and came back
@@ -47,35 +58,24 @@ row-fits part row trucks k size h l z =
 
 -- ---- a load
 -- the test as it is made on so many words, together with those loaded
-pub load-fits : (load : List ℕ) (most items loaded count : ℕ) → count ≤ length load
-    → (all (between 1 items) (take (count - 0) load) && leb (loaded + count) most) ≡ loadLine most items loaded .fits (take (count - 0) load)
-load-fits load most items loaded count h =
-    let l : length (take (count - 0) load) ≡ count = length-take-le (count - 0) load (omega arith) ∙ omega arith in
-    rw l refl
+pub load-fits : {in-range ok : Bool} (load : List ℕ) (most items loaded count : ℕ) → count ≤ length load → in-range ≡ all (between 1 items) (take (count - 0) load)
+    → ok ≡ (in-range && leb (loaded + count) most) → ok ≡ loadLine most items loaded .fits (take count load)
+load-fits load most items loaded count h first both =
+    both ∙ ap (λ (b : Bool). b && leb (loaded + count) most) (rw (sub-zero count) at first) ∙ rw (length-take-le count load h) refl
 
--- after the test there are as many entries as before or none
-pub kept-fewer : (q : Progress) (ok : Bool) → entriesOf (judgedAs q ok) ≤ entriesOf q
-kept-fewer (Next at n k) true = omega arith
-kept-fewer (Next at n k) false = omega arith
-kept-fewer (WrongForm n) ok = omega arith
-kept-fewer (OutOfRange n) ok = omega arith
-
--- so they have room, which is part of the test
-pub kept-room : (q : Progress) (ok in-range : Bool) (loaded count most : ℕ) → count ≡ entriesOf q → ok ≡ (in-range && leb (loaded + count) most) → loaded ≤ most
-    → loaded + entriesOf (judgedAs q ok) ≤ most
-kept-room (Next at n k) true in-range loaded count most c e h =
-    omega (arith, leb-true (loaded + count) most (and-reads in-range (leb (loaded + count) most) .0 (sym e) .1))
-kept-room (Next at n k) false in-range loaded count most c e h = omega arith
-kept-room (WrongForm n) ok in-range loaded count most c e h = omega arith
-kept-room (OutOfRange n) ok in-range loaded count most c e h = omega arith
+-- what is kept of a line has room, which is part of the test
+pub kept-room : (loaded count most : ℕ) (in-range ok : Bool) → ok ≡ (in-range && leb (loaded + count) most) → loaded ≤ most
+    → (cond ok count 0 ≤ count) × (loaded + cond ok count 0 ≤ most)
+kept-room loaded count most in-range true e h = (omega arith, leb-true (loaded + count) most (and-reads in-range (leb (loaded + count) most) .0 (sym e) .1))
+kept-room loaded count most in-range false e h = (omega arith, omega arith)
 
 -- so many of the words that were read, in the place of others
-pub load-within : (file loads load : List ℕ) (reader : Reader (List ℕ)) (n loaded kept : ℕ) (p r : Progress) → kept ≡ entriesOf r
+pub load-within : {file load : List ℕ} {reader : Reader (List ℕ)} (n : ℕ) {p : Progress} {r : EntriesAnswer} (loads : List ℕ) (loaded kept : ℕ) → kept ≡ r .count
     → ReadEntries file reader (padded n) p r load → ReadEntries file reader (λ l. spliced loaded l loads) p r (spliced loaded (take kept load) loads)
-load-within file loads load reader n loaded kept p r e i =
+load-within {load = load} n {r = r} loads loaded kept e i =
     let value = i .into .value in
-    let stands : Going r → take kept load ≡ value = λ g. ap (take kept) (i .into .holds g) ∙ take-at value _ kept (sym (e ∙ i .count g)) in
+    let stands : Going (r .progress) → take kept load ≡ value = λ g. ap (take kept) (i .into .holds g) ∙ take-at value _ kept (sym (e ∙ read-count i g)) in
     record {
-      into = record { value = value; says = i .into .says; holds = λ g. ap (λ (l : List ℕ). spliced loaded l loads) (stands g); sound = i .into .sound };
+      into = record { value = value; says = i .into .says; holds = λ g. ap (λ (l : List ℕ). spliced loaded l loads) (stands g); within = i .into .within };
       count = i .count;
     }

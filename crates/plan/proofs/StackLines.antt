@@ -14,11 +14,16 @@ use Rattle.meaning.specs.Table.{loadEntries}
 use Rattle.meaning.proofs.Outcomes.{Leaves, leaves-onward, leaves-line}
 use Rattle.lines.specs.declared.Progress.{Progress}
 use Rattle.lines.specs.declared.Progress.the-variants.{Next, WrongForm, OutOfRange}
-use Rattle.lines.specs.Progress.{reached, resumed, Going, entriesOf, Sound, ReadInto, ReadEntries}
+use Rattle.lines.specs.declared.EntriesAnswer.{EntriesAnswer}
+use Rattle.lines.specs.Progress.{reached, resumed, Going, WithinFile, ReadInto, ReadEntries}
 use Rattle.lines.proofs.Follow.{onward-same, onward-twice, onward-give, leaves-then}
 use Rattle.lines.proofs.Follow.{onward-reached, past-reader, given-reached, no-refusal, same-resumed, read-has, read-meets}
-use Rattle.plan.specs.Words.{spliced, rowNumbers, oneStack, StackPromise, planWords}
-use Rattle.plan.proofs.StackWords.{earlierNumbers, SixFields, earlier-more, loads-more, Stands, stands-none, stands-earlier, stands-more, stack-put}
+use Rattle.lines.proofs.Judging.{read-count}
+use Rattle.ranges.specs.Ranges.{rowNumbers}
+use Rattle.plan.specs.declared.Counts.{Counts}
+use Rattle.plan.specs.declared.StacksRead.{StacksRead}
+use Rattle.plan.specs.Words.{spliced, oneStack, StackPromise, planWords}
+use Rattle.plan.proofs.StackWords.{earlierNumbers, SixFields, earlier-more, loads-more, HoldsStacks, holds-none, holds-earlier, holds-more, stack-put}
 
 -- a stack of its two lines
 abbrev stackOf : List ℕ → List ℕ → Stack
@@ -64,7 +69,7 @@ module _ (most items trucks : ℕ) where
   -- before the first
   later-first : (file : List ℕ) (count : ℕ) (p : Progress) → onward (reached file [] p) (later count) ≡ resumed file p (stackLines most items trucks count [] 0)
   unfolding onward earlierNumbers loadEntries flatMap
-  later-first file count (Next at n k) = onward-give (stackLines most items trucks count [] 0 (suc n) (drop at file))
+  later-first file count (Next c) = onward-give (stackLines most items trucks count [] 0 (suc (c .line)) (drop (c .at) file))
   later-first file count (WrongForm n) = refl
   later-first file count (OutOfRange n) = refl
 
@@ -123,104 +128,118 @@ module _ (most items trucks : ℕ) where
     later-done = go q
       where
         go : (q : Progress) → onward (reached file ss q) (later 0) ≡ reached file ss q
-        go (Next at n k) = ap (λ (l : List Stack). found l (suc n) (drop at file)) (append-nil ss)
+        go (Next c) = ap (λ (l : List Stack). found l (suc (c .line)) (drop (c .at) file)) (append-nil ss)
         go (WrongForm n) = refl
         go (OutOfRange n) = refl
 
 -- ---- one stack, as the code reads it
-module _ (m : Limits) (items trucks k loaded n : ℕ) (file part₀ part₁ ys : List ℕ) (p q r : Progress) where
+module _ (m : Limits) (counts : Counts) (file part₀ part₁ ys : List ℕ) (q : StacksRead) (p : Progress) (r : EntriesAnswer) where
   -- the part of the loads
   abbrev lent : List ℕ
   lent = midOf (8 * m .stacks) (length part₁ - 8 * m .stacks) part₁
 
-  pub stack-read : k < m .stacks → loaded ≤ m .loads → length part₀ ≡ 8 * m .stacks + m .loads → length part₁ ≡ length part₀ → length ys ≡ length lent
-      → ReadInto file (line (stackLine trucks (rowNumbers k part₀))) (λ fields. spliced (8 * k) fields part₀) p q part₁
-      → ReadEntries file (line (loadLine (length lent) items loaded)) (λ load. spliced loaded load lent) q r ys
-      → loaded + entriesOf r ≤ length lent → n ≡ entriesOf r
-      → StackPromise m items trucks k loaded file p r part₀ (set (set (putMid (8 * m .stacks) (length part₁ - 8 * m .stacks) part₁ ys) (8 * k + 6) loaded) (8 * k + 7) n)
-  stack-read h room long same lent-same row load within counted =
+  pub stack-read : q .stacks < m .stacks → q .loaded ≤ m .loads → length part₀ ≡ 8 * m .stacks + m .loads → length part₁ ≡ length part₀ → length ys ≡ length lent
+      → ReadInto file (line (stackLine (counts .trucks) (rowNumbers (q .stacks) part₀))) (λ fields. spliced (8 * q .stacks) fields part₀) (q .progress) p part₁
+      → ReadEntries file (line (loadLine (length lent) (counts .items) (q .loaded))) (λ load. spliced (q .loaded) load lent) p r ys
+      → q .loaded + r .count ≤ length lent
+      → StackPromise m counts file q (record { progress = r .progress; stacks = q .stacks + 1; loaded = q .loaded + r .count }) part₀
+      (set (set (putMid (8 * m .stacks) (length part₁ - 8 * m .stacks) part₁ ys) (8 * q .stacks + 6) (q .loaded)) (8 * q .stacks + 7) (r .count))
+  stack-read h room long same lent-same row load within =
       let all : length lent ≡ m .loads = simp (length-take, length-drop) (omega arith) in
+      let earlier = rowNumbers (q .stacks) part₀ in
       let s = stackOf (row .value) (load .into .value) in
       record {
         into =
             record {
               value = s;
               says =
-                  stack-says (m .loads) items trucks file (rowNumbers k part₀) loaded p q r (row .value) (load .into .value) (row .says)
-                  (rw all at (load .into .says));
+                  stack-says (m .loads) (counts .items) (counts .trucks) file earlier (q .loaded) (q .progress) p (r .progress) (row .value) (load .into .value)
+                  (row .says) (rw all at (load .into .says));
               holds = λ going.
                   let goingRow = no-refusal (load .into) going in
-                  let meets = read-meets file (row .value) (stackLine trucks (rowNumbers k part₀)) p q (row .says) goingRow in
-                  stack-put m k loaded n s part₀ part₁ ys (omega (arith, meets .least, meets .most)) h room (counted ∙ load .count going) long same lent-same
-                  (row .holds goingRow) (load .into .holds going);
-              sound = load .into .sound;
+                  let meets = read-meets file (row .value) (stackLine (counts .trucks) earlier) (q .progress) p (row .says) goingRow in
+                  stack-put m (q .stacks) (q .loaded) (r .count) s part₀ part₁ ys (omega (arith, meets .least, meets .most)) h room (read-count load going) long same
+                  lent-same (row .holds goingRow) (load .into .holds going);
+              within = load .into .within;
             };
-        count = load .count;
+        stacks = refl;
+        loaded = λ going. ap (λ (n : ℕ). q .loaded + n) (read-count load going);
         within = omega (arith, all);
       }
 
--- ---- the state of the loop: k stacks of `count` are read, and their loads hold `loaded` entries. What was read, then what is left, is the
--- whole answer
-pub record SoFar (m : Limits) (items trucks count : ℕ) (file : List ℕ) (p : Progress) (part : List ℕ) (q : Progress) (loaded k : ℕ) : Type 0 where
+-- ---- the state of the loop: of `count` stacks so many are read. What was read, then what is left, is the whole answer
+pub record SoFar (m : Limits) (counts : Counts) (count : ℕ) (file : List ℕ) (p : Progress) (part : List ℕ) (q : StacksRead) : Type 0 where
   pub stacks : List Stack
-  pub many : length stacks ≡ k
-  pub below : k ≤ count
-  pub room : loaded ≤ m .loads
+  pub many : length stacks ≡ q .stacks
+  pub below : q .stacks ≤ count
+  pub fits : count ≤ m .stacks
+  pub room : q .loaded ≤ m .loads
   pub long : length part ≡ 8 * m .stacks + m .loads
-  pub sound : Sound file q
-  pub stands : Going q → Stands m stacks loaded part
-  pub says : onward (reached file stacks q) (later (m .loads) items trucks (count - k)) ≡ resumed file p (stackLines (m .loads) items trucks count [] 0)
+  pub within : WithinFile file (q .progress)
+  pub held : Going (q .progress) → HoldsStacks m stacks (q .loaded) part
+  pub says : onward (reached file stacks (q .progress)) (later (m .loads) (counts .items) (counts .trucks) (count - q .stacks))
+      ≡ resumed file p (stackLines (m .loads) (counts .items) (counts .trucks) count [] 0)
 
-pub so-far-first : (m : Limits) (items trucks count : ℕ) (file : List ℕ) (p : Progress) (part : List ℕ)
-    → part ≡ replicate (8 * m .stacks + m .loads) 0 → Sound file p → SoFar m items trucks count file p part p 0 0
-so-far-first m items trucks count file p part cleared sound =
+pub so-far-first : (m : Limits) (counts : Counts) (count : ℕ) (file : List ℕ) (p : Progress) (part : List ℕ)
+    → part ≡ replicate (8 * m .stacks + m .loads) 0 → WithinFile file p → count ≤ m .stacks
+    → SoFar m counts count file p part (record { progress = p; stacks = 0; loaded = 0 })
+so-far-first m counts count file p part cleared within fits =
     record {
       stacks = [];
       many = refl;
       below = omega arith;
+      fits = fits;
       room = omega arith;
       long = ap length cleared ∙ length-replicate {A = ℕ} (8 * m .stacks + m .loads) 0;
-      sound = sound;
-      stands = λ going. stands-none m part cleared;
-      says = rw (sub-zero count) (later-first (m .loads) items trucks file count p);
+      within = within;
+      held = λ going. holds-none m part cleared;
+      says = rw (sub-zero count) (later-first (m .loads) (counts .items) (counts .trucks) file count p);
     }
 
-module _ {m : Limits} {items trucks count : ℕ} {file : List ℕ} {p : Progress} {part : List ℕ} {q : Progress} {loaded k : ℕ}
-    (t : SoFar m items trucks count file p part q loaded k) where
+module _ {m : Limits} {counts : Counts} {count : ℕ} {file : List ℕ} {p : Progress} {part : List ℕ} {q : StacksRead}
+    (t : SoFar m counts count file p part q) where
   -- one stack more
-  pub so-far-next : (r : Progress) (part′ : List ℕ) (n : ℕ) → k < count → count ≤ m .stacks → n ≡ entriesOf r → length part′ ≡ length part
-      → StackPromise m items trucks k loaded file q r part part′ → SoFar m items trucks count file p part′ r (loaded + n) (k + 1)
-  so-far-next r part′ n h fits counted same one =
+  pub so-far-next : (r : StacksRead) (part′ : List ℕ) → q .stacks < count → length part′ ≡ length part
+      → StackPromise m counts file q r part part′ → SoFar m counts count file p part′ r
+  so-far-next r part′ h same one =
       let s = one .into .value in
       let ss = t .stacks in
-      let left : count - k ≡ suc (count - (k + 1)) = omega arith in
-      let follows : reached file s r ≡ resumed file q (oneStack (m .loads) items trucks (earlierNumbers ss) (length (loadEntries ss))) =
-      one .into .says ∙ same-resumed file q _ _ (λ going.
-      let stands = t .stands going in
-      ap₂ (oneStack (m .loads) items trucks) (ap (λ (n : ℕ). rowNumbers n part) (sym (t .many)) ∙ stands-earlier stands) (stands .counted))
+      let left : count - q .stacks ≡ suc (count - r .stacks) = omega (arith, one .stacks) in
+      let follows : reached file s (r .progress)
+      ≡ resumed file (q .progress) (oneStack (m .loads) (counts .items) (counts .trucks) (earlierNumbers ss) (length (loadEntries ss))) =
+      one .into .says ∙ same-resumed file (q .progress) _ _ (λ going.
+      let held = t .held going in
+      ap₂ (oneStack (m .loads) (counts .items) (counts .trucks)) (ap (λ (n : ℕ). rowNumbers n part) (sym (t .many)) ∙ holds-earlier held) (held .counted))
       in
       record {
         stacks = ss ++ s ∷ [];
-        many = length-append ss (s ∷ []) ∙ omega (arith, t .many);
-        below = omega arith;
-        room = omega (arith, one .within);
+        many = length-append ss (s ∷ []) ∙ omega (arith, t .many, one .stacks);
+        below = omega (arith, one .stacks);
+        fits = t .fits;
+        room = one .within;
         long = same ∙ t .long;
-        sound = one .into .sound;
-        stands = λ going.
-            let six = read-has file s SixFields q r _ (one-six (m .loads) items trucks (rowNumbers k part) loaded) (one .into .says) going in
-            let load : n ≡ length (s .load) = counted ∙ one .count going in
-            let more = stands-more (t .stands (no-refusal (one .into) going)) s six (omega (arith, t .many)) (omega (arith, one .within)) in
-            rw (load, one .into .holds going, ← t .many) more;
-        says = sym (later-next (m .loads) items trucks file ss q (count - (k + 1)) s r follows) ∙ rw left at (t .says);
+        within = one .into .within;
+        held = λ going.
+            let six =
+            read-has file s SixFields (q .progress) (r .progress) _
+            (one-six (m .loads) (counts .items) (counts .trucks) (rowNumbers (q .stacks) part) (q .loaded)) (one .into .says) going
+            in
+            let more =
+            holds-more (t .held (no-refusal (one .into) going)) s six (omega (arith, t .many, t .fits)) (omega (arith, one .within, one .loaded going))
+            in
+            rw (one .loaded going, one .into .holds going, ← t .many) more;
+        says =
+            sym (later-next (m .loads) (counts .items) (counts .trucks) file ss (q .progress) (count - r .stacks) s (r .progress) follows)
+            ∙ rw left at (t .says);
       }
 
   -- all are read
-  pub so-far-done : count ≤ k → ReadInto file (stackLines (m .loads) items trucks count [] 0) (planWords m) p q part
+  pub so-far-done : count ≤ q .stacks → ReadInto file (stackLines (m .loads) (counts .items) (counts .trucks) count [] 0) (planWords m) p (q .progress) part
   so-far-done h =
-      let none : count - k ≡ 0 = omega arith in
+      let none : count - q .stacks ≡ 0 = omega arith in
       record {
         value = t .stacks;
-        says = sym (later-done (m .loads) items trucks file (t .stacks) q) ∙ rw none at (t .says);
-        holds = λ going. t .stands going .words;
-        sound = t .sound;
+        says = sym (later-done (m .loads) (counts .items) (counts .trucks) file (t .stacks) (q .progress)) ∙ rw none at (t .says);
+        holds = λ going. t .held going .words;
+        within = t .within;
       }

@@ -13,7 +13,8 @@ use Rattle.meaning.specs.Model.{Stack, number}
 use Rattle.meaning.specs.Table.{stackWords, loadEntries}
 use Rattle.meaning.proofs.Lists.{every-append, flatMap-more}
 use Rattle.meaning.proofs.Decode.{length-padded, oneStackWords, length-oneStackWords, length-stackWords}
-use Rattle.plan.specs.Words.{spliced, rowNumbers, withStack, planWords}
+use Rattle.ranges.specs.Ranges.{rowNumbers}
+use Rattle.plan.specs.Words.{spliced, withStack, planWords}
 use Rattle.plan.proofs.Runs.{splice-behind, splice-next, splice-apart, set-splices, splice-padded, splice-lent}
 
 -- ---- one stack more
@@ -65,52 +66,52 @@ rows-earlier before (s ∷ ss) rest h =
     ∙ ap₂ (λ (l : List ℕ) (n : ℕ). l ++ n ∷ []) (rows-earlier (before + length (s .load)) ss rest (h .1)) first)
 
 -- ---- the part
--- the stacks stand in the part, and their loads hold `loaded` entries
-pub record Stands (m : Limits) (ss : List Stack) (loaded : ℕ) (part : List ℕ) : Type 0 where
+-- the part holds the stacks, and their loads have `loaded` entries
+pub record HoldsStacks (m : Limits) (ss : List Stack) (loaded : ℕ) (part : List ℕ) : Type 0 where
   pub six : Every SixFields ss
   pub counted : loaded ≡ length (loadEntries ss)
   pub words : part ≡ planWords m ss
 
 -- no stack in a cleared part
-pub stands-none : (m : Limits) (part : List ℕ) → part ≡ replicate (8 * m .stacks + m .loads) 0 → Stands m [] 0 part
+pub holds-none : (m : Limits) (part : List ℕ) → part ≡ replicate (8 * m .stacks + m .loads) 0 → HoldsStacks m [] 0 part
 unfolding planWords stackWords loadEntries flatMap
-stands-none m part e =
+holds-none m part e =
     record {
       six = tt;
       counted = refl;
       words = e ∙ rw (sub-zero (8 * m .stacks), sub-zero (m .loads)) (sym (replicate-append-replicate {A = ℕ} (8 * m .stacks) (m .loads) 0));
     }
 
-module _ {m : Limits} {ss : List Stack} {loaded : ℕ} {part : List ℕ} (stands : Stands m ss loaded part) where
+module _ {m : Limits} {ss : List Stack} {loaded : ℕ} {part : List ℕ} (held : HoldsStacks m ss loaded part) where
   -- the rows tell the numbers
-  pub stands-earlier : rowNumbers (length ss) part ≡ earlierNumbers ss
+  pub holds-earlier : rowNumbers (length ss) part ≡ earlierNumbers ss
   unfolding planWords
-  stands-earlier = rw (stands .words, append-assoc (stackWords 0 ss) _ (padded (m .loads) (loadEntries ss))) (rows-earlier 0 ss _ (stands .six))
+  holds-earlier = rw (held .words, append-assoc (stackWords 0 ss) _ (padded (m .loads) (loadEntries ss))) (rows-earlier 0 ss _ (held .six))
 
   -- one more
-  pub stands-more : (s : Stack) → SixFields s → length ss < m .stacks → loaded + length (s .load) ≤ m .loads
-      → Stands m (ss ++ s ∷ []) (loaded + length (s .load)) (withStack m (length ss) loaded part s)
+  pub holds-more : (s : Stack) → SixFields s → length ss < m .stacks → loaded + length (s .load) ≤ m .loads
+      → HoldsStacks m (ss ++ s ∷ []) (loaded + length (s .load)) (withStack m (length ss) loaded part s)
   unfolding planWords
-  stands-more s e h room =
+  holds-more s e h room =
       let rows = 8 * m .stacks in
       let row = oneStackWords loaded s in
       let before = stackWords 0 ss in
       let entries = loadEntries ss in
       let loads = padded (m .loads) entries in
-      let first : 0 + length entries ≡ loaded = omega (arith, stands .counted) in
-      let wide : length before ≡ 8 * length ss = length-stackWords 0 ss (stands .six) in
+      let first : 0 + length entries ≡ loaded = omega (arith, held .counted) in
+      let wide : length before ≡ 8 * length ss = length-stackWords 0 ss (held .six) in
       let eight : length row ≡ 8 = length-oneStackWords loaded s e in
       let full : length (padded rows (before ++ row)) ≡ rows = length-padded rows (before ++ row) (simp length-append (omega arith)) in
       let rowPut : spliced (8 * length ss) row part ≡ padded rows (before ++ row) ++ loads =
-      ap (spliced (8 * length ss) row) (stands .words) ∙ splice-padded rows (8 * length ss) before row loads wide (omega arith)
+      ap (spliced (8 * length ss) row) (held .words) ∙ splice-padded rows (8 * length ss) before row loads wide (omega arith)
       in
       let loadPut : spliced loaded (s .load) loads ≡ padded (m .loads) (entries ++ s .load) =
-      ap (spliced loaded (s .load)) (sym (append-nil loads)) ∙ splice-padded (m .loads) loaded entries (s .load) [] (sym (stands .counted)) room ∙ append-nil _
+      ap (spliced loaded (s .load)) (sym (append-nil loads)) ∙ splice-padded (m .loads) loaded entries (s .load) [] (sym (held .counted)) room ∙ append-nil _
       in
       let rowsNow : before ++ row ≡ stackWords 0 (ss ++ s ∷ []) = sym (words-more s 0 ss ∙ ap (λ (n : ℕ). before ++ oneStackWords n s) first) in
       record {
-        six = every-append SixFields ss (s ∷ []) .1 (stands .six, (e, tt));
-        counted = omega (arith, stands .counted, ap length (loads-more s ss), length-append (loadEntries ss) (s .load));
+        six = every-append SixFields ss (s ∷ []) .1 (held .six, (e, tt));
+        counted = omega (arith, held .counted, ap length (loads-more s ss), length-append (loadEntries ss) (s .load));
         words =
             ap (spliced (rows + loaded) (s .load)) rowPut
             ∙ splice-behind (padded rows (before ++ row)) loads (s .load) loaded (rows + loaded) (omega arith)

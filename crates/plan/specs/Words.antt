@@ -1,27 +1,27 @@
 -- The stacks and loads of a plan as they stand in the table, and the plan's lines for an instance of so many items and trucks.
 use mathlib.Core.Path.{_≡_}
 use mathlib.Core.List.{List, [], _∷_, _++_}
-use Prim.Native.Nat.{ℕ, zero, suc, _+_, _*_, _≤_}
-use lib.ListN.{length, getD, take, drop}
+use Prim.Native.Nat.{ℕ, _+_, _*_, _≤_, _<_}
+use lib.ListN.{length, take, drop}
 use Rattle.meaning.specs.declared.Limits.{Limits}
 use Rattle.meaning.specs.Lists.{padded}
 use Rattle.meaning.specs.Reader.{Reader, give, line, onward, _>>=_, atEnd}
 use Rattle.meaning.specs.Files.{stackLine, loadLine, stackLines, numberLine, _to_}
 use Rattle.meaning.specs.Model.{Stack}
-use Rattle.meaning.specs.Table.{stackWords, loadEntries}
-use Rattle.lines.specs.declared.Progress.{Progress}
-use Rattle.lines.specs.declared.Progress.the-variants.{Next}
-use Rattle.lines.specs.Progress.{Going, entriesOf, ReadInto}
+use Rattle.meaning.specs.Table.{largestWord, stackWords, loadEntries}
+use Rattle.ranges.specs.Ranges.{rowNumbers}
+use Rattle.lines.specs.Progress.{atStart, Going, ReadInto}
+use Rattle.plan.specs.declared.Counts.{Counts}
+use Rattle.plan.specs.declared.StacksRead.{StacksRead}
 use Rattle.plan.specs.declared.PlanAnswer.{PlanAnswer}
+
+-- item and truck numbers are told from the largest word, which stands for all numbers that do not fit
+abbrev pub BelowLargest : Counts → Type 0
+BelowLargest counts = (counts .items < largestWord) × (counts .trucks < largestWord)
 
 -- xs with ys in the place of the words from `at` on
 abbrev pub spliced : ℕ → List ℕ → List ℕ → List ℕ
 spliced at ys xs = take at xs ++ (ys ++ drop (at + length ys) xs)
-
--- the numbers of the stacks in the first k rows, the last one first
-unfoldable pub rowNumbers : ℕ → List ℕ → List ℕ
-rowNumbers zero part = []
-rowNumbers (suc k) part = getD part (8 * k) 0 ∷ rowNumbers k part
 
 -- one `stack=` line with its `load=` line, behind others whose numbers are `earlier` and whose loads hold `loaded` entries
 unfoldable pub oneStack : ℕ → ℕ → ℕ → List ℕ → ℕ → Reader Stack
@@ -35,11 +35,13 @@ oneStack most items trucks earlier loaded = do
 abbrev pub withStack : Limits → ℕ → ℕ → List ℕ → Stack → List ℕ
 withStack m k loaded part s = spliced (8 * m .stacks + loaded) (s .load) (spliced (8 * k) (s .fields ++ (loaded ∷ length (s .load) ∷ [])) part)
 
--- what reading one stack promises: the number of its items besides, for which there is room behind those loaded, also after a refusal
-pub record StackPromise (m : Limits) (items trucks k loaded : ℕ) (file : List ℕ) (p r : Progress) (part₀ part : List ℕ) : Type 0 where
-  pub into : ReadInto file (oneStack (m .loads) items trucks (rowNumbers k part₀) loaded) (withStack m k loaded part₀) p r part
-  pub count : Going r → entriesOf r ≡ length (into .value .load)
-  pub within : loaded + entriesOf r ≤ m .loads
+-- what reading the next stack promises: how many are read then, and how many entries their loads hold, for which there is room also after a refusal
+pub record StackPromise (m : Limits) (counts : Counts) (file : List ℕ) (q r : StacksRead) (part₀ part : List ℕ) : Type 0 where
+  pub into : ReadInto file (oneStack (m .loads) (counts .items) (counts .trucks) (rowNumbers (q .stacks) part₀) (q .loaded))
+      (withStack m (q .stacks) (q .loaded) part₀) (q .progress) (r .progress) part
+  pub stacks : r .stacks ≡ q .stacks + 1
+  pub loaded : Going (r .progress) → r .loaded ≡ q .loaded + length (into .value .load)
+  pub within : r .loaded ≤ m .loads
 
 -- the words of a plan, from the first word of the stacks on
 unfoldable pub planWords : Limits → List Stack → List ℕ
@@ -55,6 +57,6 @@ planFile m items trucks = do
   atEnd p
 
 -- what reading the plan promises: the number of its stacks besides
-pub record PlanPromise (m : Limits) (items trucks : ℕ) (file : List ℕ) (r : PlanAnswer) (part : List ℕ) : Type 0 where
-  pub into : ReadInto file (planFile m items trucks) (planWords m) (Next 0 0 0) (r .progress) part
+pub record PlanPromise (m : Limits) (counts : Counts) (file : List ℕ) (r : PlanAnswer) (part : List ℕ) : Type 0 where
+  pub into : ReadInto file (planFile m (counts .items) (counts .trucks)) (planWords m) atStart (r .progress) part
   pub stacks : Going (r .progress) → r .stacks ≡ length (into .value)

@@ -6,8 +6,8 @@ use Prim.Native.Nat.{ℕ, suc, _+_, _-_, _*_}
 use native.Mathlib.Nat.{sub-zero}
 use native.Mathlib.Numerals.{add-one}
 use native.Mathlib.Omega.{arith}
-use lib.ListN.{length, set, take, drop, replicate, length-append, length-drop, length-replicate, replicate-append-replicate, drop-of-length-le}
-use lib.Seq.{take-at, drop-at}
+use lib.ListN.{length, getD, set, take, drop, replicate, length-append, length-drop, length-replicate, replicate-append-replicate, drop-of-length-le}
+use lib.Seq.{take-at, take-all, drop-at}
 use borrow.Rule.Slice.PartMut.{putMid}
 use Rattle.meaning.specs.declared.Limits.{Limits}
 use Rattle.meaning.specs.declared.Place.{Place}
@@ -27,7 +27,11 @@ use Rattle.meaning.proofs.Printed.{instance-off}
 use Rattle.meaning.proofs.Ranges.{meets-fits}
 use Rattle.meaning.proofs.Decode.{decodes}
 use Rattle.table.specs.Filled.{Bounded}
+use Rattle.table.proofs.Words.{items-counted}
 use Rattle.table.proofs.Fill.{words-filled}
+use Rattle.ranges.specs.declared.Clash.{Clash}
+use Rattle.ranges.specs.Clashes.{itemsIn, clashPlace}
+use Rattle.ranges.proofs.Clashes.{clashes-of}
 use Rattle.lines.specs.declared.Progress.{Progress}
 use Rattle.lines.specs.declared.Progress.the-variants.{Next, WrongForm, OutOfRange}
 use Rattle.lines.specs.Progress.{reached, ReadInto}
@@ -169,6 +173,15 @@ module _ (m : Limits) (file : List ℕ) (p : Progress) (part : List ℕ) (h : Re
           rw (instance-said (Next at n k) e) (rw same at later)
 
 -- ---- by the lowest code clash
+-- of the items whose words are lent
+pub clash-in : (m : Limits) (t : List ℕ) (clash : Clash) (count : ℕ) → count ≡ length (instanceIn m t .items)
+    → clashPlace clash ≡ lowest (codeClashes (itemsIn count (take (length t - 16) (drop 16 t)))) → clashPlace clash ≡ lowest (codeClashes (instanceIn m t))
+unfolding instanceIn
+clash-in m t clash count e is =
+    let lent : take (length t - 16) (drop 16 t) ≡ drop 16 t = take-all (length t - 16) (drop 16 t) (omega (arith, length-drop 16 t)) in
+    let same : count ≡ getD t 3 0 = e ∙ items-counted m t in
+    is ∙ ap lowest (clashes-of (instanceIn m t) count _ (rw (lent, same) refl))
+
 module _ (m : Limits) (i : Instance) (plan : List ℕ) (o : Option Place) (t : List ℕ) where
   pub clash-refused : (n first : ℕ) → some (place n first 0) ≡ o → FillPromise m (afterClash m i plan o) (CodeClash n first) t
   unfolding afterClash

@@ -16,18 +16,11 @@ use Rattle.meaning.specs.Places.{place}
 use Rattle.meaning.specs.Verdict.{refusal}
 use Rattle.meaning.specs.Check.{Reading, refused, readable, readFiles, namedAfter, tableAfter}
 use Rattle.table.specs.Filled.{Filled}
-use Rattle.reading.specs.declared.Clash.{Clash}
-use Rattle.reading.specs.declared.Clash.the-variants.{Between, Nowhere}
 use Rattle.reading.specs.declared.FilesRead.{FilesRead}
 use Rattle.reading.specs.declared.FilesRead.the-variants.{ShortTable, InstanceOverlong, PlanOverlong, InstanceForm, InstanceRange}
 use Rattle.reading.specs.declared.FilesRead.the-variants.{CodeClash, PlanForm, PlanRange, Readable}
 
 -- ---- the cases of an answer
--- the place of a code clash: "item, that one"
-abbrev pub clashPlace : Clash → Option Place
-clashPlace (Between n first) = some (place n first 0)
-clashPlace Nowhere = none
-
 -- document 01's number and places for each refusal; none where both files are readable
 abbrev pub refusalOf : FilesRead → Option Answer
 refusalOf ShortTable = some (refusal 1 (place 0 0 0))

@@ -6,81 +6,26 @@ ghost use Rattle.meaning.specs.Limits.{small, named};
 ghost use Rattle.meaning.specs.Places.{place, lowest};
 ghost use Rattle.meaning.specs.Reader.{wholeFile};
 ghost use Rattle.meaning.specs.Files.{instanceLines, planLines};
-ghost use Rattle.meaning.specs.Model.{item};
 ghost use Rattle.meaning.specs.Table.{instanceIn};
 ghost use Rattle.meaning.specs.Verdict.{refusal};
-ghost use Rattle.meaning.specs.Check.{firstOfCode, sameLengthAndWidth, codeClashes, afterPlan, afterClash, afterInstance, readFiles};
-ghost use Rattle.table.specs.Filled.{Bounded, Filled, ItemNumber};
-ghost use Rattle.reading.specs.Answered.{clashPlace, FillPromise, HoldsInstance, readableBy, refusalAnswer, NamedPromise, ReadPromise};
+ghost use Rattle.meaning.specs.Check.{codeClashes, afterPlan, afterClash, afterInstance, readFiles};
+ghost use Rattle.table.specs.Filled.{Bounded};
+ghost use Rattle.reading.specs.Answered.{FillPromise, HoldsInstance, readableBy, refusalAnswer, NamedPromise, ReadPromise};
 use instance::read_instance;
 use lines::Progress;
 use meaning::Answer;
 use meaning::Limits;
 use plan::read_plan;
+use ranges::Clash;
+use ranges::lowest_clash;
 use table::clear;
-use table::fields::IL;
-use table::fields::IS;
-use table::fields::IW;
 use table::item_count;
-use table::item_field;
+use table::layout::HEAD_WORDS;
 use table::layout::STACK_COUNT;
 use table::named_words;
 use table::small_limits;
 use table::stacks_at;
 use table::truck_count;
-
-// ---- code clash
-
-// The number of the first item with the code of item n.
-fn first_of_code(t: &[u32], limits: Limits, n: u32) -> u32
-    requires { ⌜ Filled limits (now t) × ItemNumber (instanceIn limits (now t)) n ⌝ }
-    ensures { λ r. ⌜ (r ≡ firstOfCode (instanceIn limits (now (t .entry))) n) × ItemNumber (instanceIn limits (now (t .entry))) r ⌝ }
-{
-    let code = item_field(t, limits, n, IS);
-    let mut k: u32 = 1;
-    while k < n {
-        if item_field(t, limits, k, IS) == code {
-            return k;
-        }
-        k += 1;
-    }
-    n
-}
-
-// Whether two items have the same length and width.
-fn same_length_and_width(t: &[u32], limits: Limits, n: u32, k: u32) -> bool
-    requires { ⌜ Filled limits (now t) × ItemNumber (instanceIn limits (now t)) n × ItemNumber (instanceIn limits (now t)) k ⌝ }
-    ensures { λ r. ⌜ r ≡ sameLengthAndWidth (item (instanceIn limits (now (t .entry))) n) (item (instanceIn limits (now (t .entry))) k) ⌝ }
-{
-    if item_field(t, limits, n, IL) == item_field(t, limits, k, IL) {
-        item_field(t, limits, n, IW) == item_field(t, limits, k, IW)
-    } else {
-        false
-    }
-}
-
-// Verdict 6: an item that differs in length or width from the lowest-numbered item of its code, and that one.
-pub enum Clash {
-    Between(u32, u32),
-    Nowhere,
-}
-
-// The clash of the lowest item. Items are asked from the last to the first, so the last clash found is the lowest.
-fn lowest_clash(t: &[u32], limits: Limits) -> Clash
-    requires { ⌜ Filled limits (now t) ⌝ }
-    ensures { λ r. ⌜ clashPlace r ≡ lowest (codeClashes (instanceIn limits (now (t .entry)))) ⌝ }
-{
-    let mut clash = Clash::Nowhere;
-    let mut n = item_count(t, limits);
-    while 0 < n {
-        let first = first_of_code(t, limits, n);
-        if !same_length_and_width(t, limits, n, first) {
-            clash = Clash::Between(n, first);
-        }
-        n -= 1;
-    }
-    clash
-}
 
 // ---- filling the named words
 
@@ -130,7 +75,8 @@ fn fill_after_instance(limits: Limits, plan: &[u8], words: &mut [u32]) -> FilesR
     ensures { λ r. ⌜ FillPromise limits (afterClash limits (instanceIn limits (now (words .entry))) (now (plan .entry))
         (lowest (codeClashes (instanceIn limits (now (words .entry)))))) r (now (words .exit)) ⌝ }
 {
-    match lowest_clash(words, limits) {
+    let items = item_count(words, limits);
+    match lowest_clash(&words[HEAD_WORDS..], items) {
         Clash::Between(n, first) => FilesRead::CodeClash(n, first),
         Clash::Nowhere => fill_plan(limits, plan, words),
     }

@@ -1,4 +1,3 @@
 pub mod Repeat
-pub mod Entries
 pub mod Docks
 pub mod Truck

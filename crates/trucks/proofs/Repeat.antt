@@ -12,7 +12,7 @@ use Rattle.meaning.specs.Lists.{padded}
 use Rattle.meaning.specs.Reader.{Reader, onward, times}
 use Rattle.meaning.proofs.Lists.{flatMap-more}
 use Rattle.lines.specs.declared.Progress.{Progress}
-use Rattle.lines.specs.Progress.{reached, resumed, Going, Sound, ReadInto}
+use Rattle.lines.specs.Progress.{reached, resumed, Going, WithinFile, ReadInto}
 use Rattle.lines.proofs.Follow.{no-refusal, more, times-first, times-next, times-done}
 use Rattle.trucks.specs.Rows.{rows}
 
@@ -69,16 +69,16 @@ pub record Repeat {A : Type 0} (file : List ℕ) (R : Reader A) (Holds : ℕ →
   pub values : List A
   pub below : k ≤ n
   pub holds : Going q → Holds k values out
-  pub sound : Sound file q
+  pub within : WithinFile file q
   pub says : onward (reached file values q) (more R (n - k)) ≡ resumed file p (times n R)
 
 module _ {A : Type 0} {file : List ℕ} {R : Reader A} {Holds : ℕ → List A → List ℕ → Type 0} where
-  pub repeat-first : (n : ℕ) (p : Progress) (out : List ℕ) → Sound file p → Holds 0 [] out → Repeat file R Holds n p out p 0
-  repeat-first n p out sound h = record {
+  pub repeat-first : (n : ℕ) (p : Progress) (out : List ℕ) → WithinFile file p → Holds 0 [] out → Repeat file R Holds n p out p 0
+  repeat-first n p out within h = record {
     values = [];
     below = omega arith;
     holds = λ g. h;
-    sound = sound;
+    within = within;
     says = rw (sub-zero n) (times-first R file n p);
   }
 
@@ -90,7 +90,7 @@ module _ {A : Type 0} {file : List ℕ} {R : Reader A} {Holds : ℕ → List A �
       values = s .values ++ a .value ∷ [];
       below = omega arith;
       holds = λ g. step (s .values) (s .holds (no-refusal a g)) g;
-      sound = a .sound;
+      within = a .within;
       says =
           let e : n - k ≡ suc (n - (k + 1)) = omega arith in
           sym (times-next R file (s .values) (a .value) (n - (k + 1)) q r (a .says)) ∙ rw e at (s .says);
@@ -101,7 +101,7 @@ module _ {A : Type 0} {file : List ℕ} {R : Reader A} {Holds : ℕ → List A �
       value = s .values;
       says = let e : n - k ≡ 0 = omega (arith, s .below) in sym (times-done R file (s .values) q) ∙ rw e at (s .says);
       holds = λ g. stands (s .values) (s .holds g);
-      sound = s .sound;
+      within = s .within;
     }
 
 -- ---- runs of one width, one behind the other
@@ -123,14 +123,14 @@ runs-put {width = width} {w = w} {k = k} {vs = vs} f lent run v e room l words =
 
 module _ {A : Type 0} {file : List ℕ} {R : Reader A} {w : A → List ℕ} {size width : ℕ} where
   -- before the first, in a cleared part
-  pub first : (n : ℕ) (p : Progress) (out : List ℕ) → Sound file p → out ≡ replicate size 0 → Repeat file R (Runs size width w) n p out p 0
-  first n p out sound e = repeat-first n p out sound (runs-clear size width w out e)
+  pub first : (n : ℕ) (p : Progress) (out : List ℕ) → WithinFile file p → out ≡ replicate size 0 → Repeat file R (Runs size width w) n p out p 0
+  first n p out within e = repeat-first n p out within (runs-clear size width w out e)
 
   module _ {n : ℕ} {p : Progress} {out : List ℕ} {q : Progress} {k : ℕ} (s : Repeat file R (Runs size width w) n p out q k) where
     -- after one more
-    pub next : {r : Progress} {run : List ℕ} → k < n → (lent : ℕ) → lent ≡ width → width * (k + 1) ≤ size → length run ≡ lent
-        → ReadInto file R w q r run → Repeat file R (Runs size width w) n p (putMid (width * k) lent out run) r (k + 1)
-    next {r} {run} h lent e room l a =
+    pub next : {r : Progress} {run : List ℕ} → ReadInto file R w q r run → k < n → (lent : ℕ) → lent ≡ width → width * (k + 1) ≤ size → length run ≡ lent
+        → Repeat file R (Runs size width w) n p (putMid (width * k) lent out run) r (k + 1)
+    next {r} {run} a h lent e room l =
         repeat-next s h a (putMid (width * k) lent out run) (λ vs f g. runs-put f lent run (a .value) e room l (a .holds g))
 
     -- after the last

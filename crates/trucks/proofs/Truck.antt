@@ -9,8 +9,10 @@ use Rattle.meaning.specs.Reader.{Reader, give, _>>=_, line, times}
 use Rattle.meaning.specs.Files.{truckLine, productsLine, suppliersLine, docksLine, plantDocksLine, truckLines}
 use Rattle.meaning.specs.Table.{countedWords, truckWords}
 use Rattle.lines.specs.declared.Progress.{Progress}
-use Rattle.lines.specs.Progress.{reached, resumed, entriesOf, ReadInto, ReadEntries}
+use Rattle.lines.specs.declared.EntriesAnswer.{EntriesAnswer}
+use Rattle.lines.specs.Progress.{reached, resumed, ReadInto, ReadEntries}
 use Rattle.lines.proofs.Follow.{past-reader, given-reached, no-refusal, same-resumed}
+use Rattle.lines.proofs.Judging.{read-count, few-entries}
 use Rattle.trucks.specs.Rows.{dockWords}
 use Rattle.trucks.proofs.Repeat.{Front}
 
@@ -43,45 +45,46 @@ unfolding truckWords
 parts-words t wide = rw (wide, regroup) refl
 
 -- ---- the whole truck
-module _ {file : List ℕ} {p q₁ q₂ q₃ q₄ q₅ : Progress} {w₁ w₂ w₃ w₄ w₅ : List ℕ}
-    (row : ReadInto file (line truckLine) (λ ns. ns) p q₁ w₁)
-    (products : ReadEntries file (line productsLine) (countedWords 32) q₁ q₂ w₂)
-    (suppliers : ReadEntries file (line suppliersLine) (countedWords 8) q₂ q₃ w₃)
-    (count : ℕ) (counted : count ≡ entriesOf q₃)
-    (docks : ReadInto file (times count (line docksLine)) dockWords q₃ q₄ w₄)
-    (plantDocks : ReadEntries file (line plantDocksLine) (countedWords 8) q₄ q₅ w₅) where
+module _ {file : List ℕ} {p row : Progress} {products suppliers : EntriesAnswer} {docks : Progress} {plantDocks : EntriesAnswer} {w₁ w₂ w₃ w₄ w₅ : List ℕ}
+    (readRow : ReadInto file (line truckLine) (λ ns. ns) p row w₁)
+    (readProducts : ReadEntries file (line productsLine) (countedWords 32) row products w₂)
+    (readSuppliers : ReadEntries file (line suppliersLine) (countedWords 8) (products .progress) suppliers w₃)
+    (readDocks : ReadInto file (times (suppliers .count) (line docksLine)) dockWords (suppliers .progress) docks w₄)
+    (readPlantDocks : ReadEntries file (line plantDocksLine) (countedWords 8) docks plantDocks w₅) where
   abbrev truck : Truck
-  truck = truckOf (row .value) (products .into .value) (suppliers .into .value) (docks .value) (plantDocks .into .value)
+  truck = truckOf (readRow .value) (readProducts .into .value) (readSuppliers .into .value) (readDocks .value) (readPlantDocks .into .value)
 
   -- line by line
-  says : reached file truck q₅ ≡ resumed file p truckLines
+  says : reached file truck (plantDocks .progress) ≡ resumed file p truckLines
   unfolding truckLines
   says =
-      let f = row .value in
-      let ps = products .into .value in
-      let ss = suppliers .into .value in
-      let ds = docks .value in
-      let ls = plantDocks .into .value in
-      let each = docks .says ∙ same-resumed file q₃ _ _ (λ g. ap (λ (n : ℕ). times n (line docksLine)) (counted ∙ suppliers .count g)) in
+      let f = truck .fields in
+      let ps = truck .products in
+      let ss = truck .suppliers in
+      let ds = truck .docks in
+      let each = readDocks .says ∙ same-resumed file (suppliers .progress) _ _ (λ g. ap (λ (n : ℕ). times n (line docksLine)) (read-count readSuppliers g)) in
       sym
-      (past-reader file p q₁ f _ afterRow (row .says)
-      ∙ past-reader file q₁ q₂ ps _ (afterProducts f) (products .into .says)
-      ∙ past-reader file q₂ q₃ ss _ (afterSuppliers f ps) (suppliers .into .says)
-      ∙ past-reader file q₃ q₄ ds _ (afterDocks f ps ss) each
-      ∙ past-reader file q₄ q₅ ls _ (λ l. give (truckOf f ps ss ds l)) (plantDocks .into .says)
-      ∙ given-reached file truck q₅)
+      (past-reader file p row f _ afterRow (readRow .says)
+      ∙ past-reader file row (products .progress) ps _ (afterProducts f) (readProducts .into .says)
+      ∙ past-reader file (products .progress) (suppliers .progress) ss _ (afterSuppliers f ps) (readSuppliers .into .says)
+      ∙ past-reader file (suppliers .progress) docks ds _ (afterDocks f ps ss) each
+      ∙ past-reader file docks (plantDocks .progress) (truck .plantDocks) _ (λ l. give (truckOf f ps ss ds l)) (readPlantDocks .into .says)
+      ∙ given-reached file truck (plantDocks .progress))
 
   pub truck-read : {out : List ℕ} → Front 160 143 ((((([] ++ w₁) ++ w₂) ++ w₃) ++ w₄) ++ w₅) out
-      → ReadInto file truckLines truckWords p q₅ out
+      → ReadInto file truckLines truckWords p (plantDocks .progress) out
   truck-read front = record {
     value = truck;
     says = says;
-    holds = λ g₅.
-        let g₄ = no-refusal (plantDocks .into) g₅ in
-        let g₃ = no-refusal docks g₄ in
-        let g₂ = no-refusal (suppliers .into) g₃ in
-        let g₁ = no-refusal (products .into) g₂ in
-        let filled = rw (row .holds g₁, products .into .holds g₂, suppliers .into .holds g₃, docks .holds g₄, plantDocks .into .holds g₅) at front in
+    holds = λ g.
+        let gDocks = no-refusal (readPlantDocks .into) g in
+        let gSuppliers = no-refusal readDocks gDocks in
+        let gProducts = no-refusal (readSuppliers .into) gSuppliers in
+        let gRow = no-refusal (readProducts .into) gProducts in
+        let filled =
+        rw (readRow .holds gRow, readProducts .into .holds gProducts, readSuppliers .into .holds gSuppliers, readDocks .holds gDocks, readPlantDocks .into .holds g)
+        at front
+        in
         filled .stands ∙ parts-words truck (filled .wide);
-    sound = plantDocks .into .sound;
+    within = readPlantDocks .into .within;
   }

@@ -5,13 +5,15 @@ ghost use lib.ListN.{length};
 ghost use Rattle.meaning.specs.Reader.{line, times};
 ghost use Rattle.meaning.specs.Files.{truckLine, docksLine, truckLines};
 ghost use Rattle.meaning.specs.Table.{truckWords};
-ghost use Rattle.lines.specs.Progress.{Sound, ReadInto};
+ghost use Rattle.lines.specs.Progress.{WithinFile, ReadInto};
 ghost use Rattle.trucks.specs.Rows.{rows, dockWords};
 use lines::Progress;
 use lines::counted_line;
-use lines::entries;
-use lines::fields_line;
 use lines::identifiers_line;
+use lines::judged;
+use lines::stored_line;
+use ranges::LAST_DAY;
+use ranges::truck_in_range;
 use table::clear;
 use table::layout::BEHIND_DOCKS;
 use table::layout::DOCK_COUNTS;
@@ -23,7 +25,7 @@ use table::layout::TRUCK_WORDS;
 
 // One `docks=` line for each supplier. The eight counts stand first, then the docks of each supplier in a row of their own.
 fn read_docks(file: &[u8], p: Progress, suppliers: usize, part: &mut [u32]) -> Progress
-    requires { ⌜ Sound (now file) p × (suppliers ≤ 8) × (length (now part) ≡ 72) ⌝ }
+    requires { ⌜ WithinFile (now file) p × (suppliers ≤ 8) × (length (now part) ≡ 72) ⌝ }
     ensures { λ r. ⌜ ReadInto (now (file .entry)) (times suppliers (line docksLine)) dockWords p r (now (part .exit)) ⌝ }
 {
     clear(part);
@@ -31,8 +33,9 @@ fn read_docks(file: &[u8], p: Progress, suppliers: usize, part: &mut [u32]) -> P
     let mut k: usize = 0;
     while k < suppliers {
         let first = 8 + SUPPLIER_DOCKS * k;
-        q = identifiers_line(file, q, b"docks=", &mut part[first..first + SUPPLIER_DOCKS]);
-        part[k] = entries(q) as u32;
+        let docks = identifiers_line(file, q, b"docks=", &mut part[first..first + SUPPLIER_DOCKS]);
+        part[k] = docks.count as u32;
+        q = docks.progress;
         k += 1;
     }
     q
@@ -40,68 +43,44 @@ fn read_docks(file: &[u8], p: Progress, suppliers: usize, part: &mut [u32]) -> P
 
 // The truck's own line.
 fn read_truck_fields(file: &[u8], p: Progress, part: &mut [u32]) -> Progress
-    requires { ⌜ Sound (now file) p × (length (now part) ≡ 20) ⌝ }
+    requires { ⌜ WithinFile (now file) p × (length (now part) ≡ 20) ⌝ }
     ensures { λ r. ⌜ ReadInto (now (file .entry)) (line truckLine) (λ ns. ns) p r (now (part .exit)) ⌝ }
 {
-    // Every field starts at 1, but for TDA, TMM, TF, TC, CM, CJfc, CJfh, EM, EJcr and EJeh, which start at 0.
-    let lows: [u32; 20] = [1, 1, 1, 1, 1, 0, 0, 0, 1, 0, 0, 1, 0, 0, 0, 1, 0, 0, 1, 1];
-    let highs: [u32; 20] = [
-        20000, // TL
-        20000, // TW
-        20000, // TH
-        50000, // TMm
-        65535, // plant
-        399, // TDA
-        50000, // TMM
-        1, // TF
-        100000, // TEM
-        1000000, // TC
-        50000, // CM
-        20000, // CJfm
-        20000, // CJfc
-        20000, // CJfh
-        50000, // EM
-        20000, // EJhr
-        20000, // EJcr
-        20000, // EJeh
-        50000, // EMmr
-        50000, // EMmm
-    ];
-    fields_line(file, p, b"truck=", &lows, &highs, part)
+    let stored = stored_line(file, p, b"truck=", PRODUCTS, part);
+    let in_range = truck_in_range(part, LAST_DAY);
+    judged(stored, in_range)
 }
 
 // All lines of a truck, into its 160 words.
 fn read_truck(file: &[u8], p: Progress, part: &mut [u32]) -> Progress
-    requires { ⌜ Sound (now file) p × (length (now part) ≡ 160) ⌝ }
+    requires { ⌜ WithinFile (now file) p × (length (now part) ≡ 160) ⌝ }
     ensures { λ r. ⌜ ReadInto (now (file .entry)) truckLines truckWords p r (now (part .exit)) ⌝ }
 {
     // Whatever stood in the truck's words before, nothing of it is left.
     clear(&mut part[0..TRUCK_WORDS]);
-    let row = read_truck_fields(file, p, &mut part[0..PRODUCTS]);
-    let products = counted_line(file, row, b"products=", &mut part[PRODUCTS..SUPPLIERS]);
-    let suppliers = counted_line(
+    let p = read_truck_fields(file, p, &mut part[0..PRODUCTS]);
+    let products = counted_line(file, p, b"products=", &mut part[PRODUCTS..SUPPLIERS]);
+    let p = products.progress;
+    let suppliers = counted_line(file, p, b"suppliers=", &mut part[SUPPLIERS..DOCK_COUNTS]);
+    let p = suppliers.progress;
+    let p = read_docks(
         file,
-        products,
-        b"suppliers=",
-        &mut part[SUPPLIERS..DOCK_COUNTS],
-    );
-    let docks = read_docks(
-        file,
-        suppliers,
-        entries(suppliers),
+        p,
+        suppliers.count,
         &mut part[DOCK_COUNTS..PLANT_DOCKS],
     );
-    counted_line(
+    let plant_docks = counted_line(
         file,
-        docks,
+        p,
         b"plantdocks=",
         &mut part[PLANT_DOCKS..BEHIND_DOCKS],
-    )
+    );
+    plant_docks.progress
 }
 
 // The trucks one after another, each into the part of the table that it is lent. The words of trucks that the instance lacks are zero.
 pub fn read_trucks(file: &[u8], p: Progress, count: usize, part: &mut [u32]) -> Progress
-    requires { ⌜ Sound (now file) p × (160 * count ≤ length (now part)) ⌝ }
+    requires { ⌜ WithinFile (now file) p × (160 * count ≤ length (now part)) ⌝ }
     ensures { λ r. ⌜ ReadInto (now (file .entry)) (times count truckLines) (rows (length (now (part .entry))) truckWords) p r
         (now (part .exit)) ⌝ }
 {

@@ -4,6 +4,7 @@ use Prim.Native.Nat.{ℕ}
 use native.Mathlib.Omega.{arith}
 use lib.ListN.{length, replicate, length-set}
 use borrow.Author.Needs.{needs}
+use Rattle.lines.specs.Progress.{atStart}
 use Rattle.instance.proofs.HeadLines.{headNumbers, head-says, head-words}
 use Rattle.instance.proofs.read_head.Statement.{statement}
 use Rattle.instance.proofs.read_head.Tie as tie
@@ -23,7 +24,7 @@ fourth c = c .before .before .before
 
 -- the words are still 16
 long : (c : tie.After-clear) → length (c .clear .last .0) ≡ 16
-long c = c .clear .kept .0 ∙ start c .pre .2
+long c = c .clear .kept .0 ∙ start c .pre .1
 
 clear-requires : tie.Need-clear-requires
 clear-requires c κs = search needs
@@ -79,11 +80,11 @@ slice-write-part-4 c = simp length-set (omega (arith, long (cleared (third (four
 slice-write-part-5 : tie.Need-slice-write-part-5
 slice-write-part-5 c = simp length-set (omega (arith, long (cleared (third (fourth c)))))
 
-cast-t39 : tie.Need-cast-t39
-cast-t39 c = search needs
+cast-item-count : tie.Need-cast-item-count
+cast-item-count c = search needs
 
-cast-t40 : tie.Need-cast-t40
-cast-t40 c = search needs
+cast-truck-count : tie.Need-cast-truck-count
+cast-truck-count c = search needs
 
 same-length : tie.Need-same-length
 same-length c = simp length-set (cleared (third (fourth (c .before .before))) .clear .kept .0)
@@ -106,14 +107,14 @@ returns c =
           record {
             value = headNumbers (transport .value) (inventory .value) (extra .value) (items .value) (trucks .value);
             says =
-                head-says (start zeros .args .limits) (start zeros .args .file .now) (start zeros .args .p) transport inventory extra items trucks
+                head-says (start zeros .args .limits) (start zeros .args .file .now) atStart transport inventory extra items trucks
                 (firstLine .number-line .ensures .0 "transport=" refl)
                 (secondLine .number-line2 .ensures .0 "inventory=" refl)
                 (thirdLine .number-line3 .ensures .0 "extra=" refl)
                 (fourthLine .number-line4 .ensures .0 "items=" refl)
                 (fifthLine .number-line5 .ensures .0 "trucks=" refl);
-            holds = λ g. head-words (zeros .clear .last .0) _ _ _ _ _ (zeros .clear .ensures ∙ ap (λ (k : ℕ). replicate k 0) (start zeros .pre .2));
-            sound = fifthLine .number-line5 .ensures .1 .0;
+            holds = λ g. head-words (zeros .clear .last .0) _ _ _ _ _ (zeros .clear .ensures ∙ ap (λ (k : ℕ). replicate k 0) (start zeros .pre .1));
+            within = fifthLine .number-line5 .ensures .1 .0;
           };
       items = λ g. refl;
       trucks = λ g. refl;
@@ -143,7 +144,7 @@ read-head-spec =
     slice-write-part-3
     slice-write-part-4
     slice-write-part-5
-    cast-t39
-    cast-t40
+    cast-item-count
+    cast-truck-count
     same-length
     returns)

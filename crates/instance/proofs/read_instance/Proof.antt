@@ -1,11 +1,9 @@
 -- `read_instance`: head, items and trucks each fill their whole part, and the three parts are all the words.
-use mathlib.Core.Path.{_≡_, _∙_}
-use mathlib.Core.List.{_++_}
-use Prim.Native.Nat.{_-_, _*_}
+use Prim.Native.Nat.{_-_}
 use native.Mathlib.Omega.{arith}
-use lib.ListN.{length, take, drop, length-append}
+use lib.ListN.{length, length-append}
 use borrow.Author.Needs.{needs}
-use borrow.Rule.Slice.PartMut.{putMid, mid-len, same-len-mid}
+use borrow.Rule.Slice.PartMut.{putMid}
 use Rattle.instance.proofs.Parts.{three-parts}
 use Rattle.instance.proofs.WholeFile.{instance-read}
 use Rattle.instance.proofs.read_instance.Statement.{statement}
@@ -66,32 +64,21 @@ returns c =
     let first = second .before .before .before .before in
     let placed = first .before .before in
     let start = placed .before .before .before in
-    let m = start .args .limits in
     let words = start .args .part .now in
     let from = placed .trucks-at .result in
     -- what came back of each part
-    let head = first .read-head .last .1 .1 .1 .0 in
+    let head = first .read-head .last .1 .1 .0 in
     let items = second .read-items .last .1 .1 .1 .0 in
     let trucks = third .read-trucks .last .1 .1 .1 .0 in
-    let one = putMid 0 16 words head in
-    let two = putMid 16 (from - 16) one items in
-    let longOne : length one ≡ length words = same-len-mid 0 16 words head (first .read-head .kept .1 .1 .1 .0) in
-    let longTwo : length two ≡ length words = same-len-mid 16 (from - 16) one items (second .read-items .kept .1 .1 .1 .0) ∙ longOne in
+    let two = putMid 16 (from - 16) (putMid 0 16 words head) items in
     -- how long the parts are
-    let headLong : length head ≡ 16 = first .read-head .kept .1 .1 .1 .0 ∙ mid-len 0 16 words (omega (arith, start .pre .1)) in
-    let lentItems : length (take (from - 16) (drop 16 one)) ≡ 16 * m .items =
-    mid-len 16 from one (omega (arith, start .pre .1, placed .trucks-at .ensures)) ∙ omega (arith, placed .trucks-at .ensures)
-    in
-    let lentTrucks : length (take (length two - from) (drop from two)) ≡ 160 * m .trucks =
-    mid-len from (length two) two (omega arith) ∙ omega (arith, start .pre .1, placed .trucks-at .ensures)
-    in
-    let frontLong : length (head ++ items) ≡ from =
-    length-append head items ∙ omega (arith, second .read-items .kept .1 .1 .1 .0, placed .trucks-at .ensures)
-    in
+    let long = start .pre .1 in
+    let place = placed .trucks-at .ensures in
+    let afterHead = second .before .before .before .part .given in
+    let afterItems = third .before .before .before .part2 .given in
     rw (c .at-end .ensures)
-    (instance-read m (start .args .file .now) (first .read-head .result) (second .read-items .result) (third .read-trucks .result) head items trucks
-    (first .read-head .ensures) (rw lentItems at (second .read-items .ensures)) (rw lentTrucks at (third .read-trucks .ensures)) _
-    (three-parts words head items trucks 16 (from - 16) (length two - from) from headLong frontLong (omega (arith, longTwo, placed .trucks-at .ensures))))
+    (instance-read (first .read-head .ensures) (second .read-items .ensures) (third .read-trucks .ensures) (omega arith) (omega arith) _
+    (three-parts words head items trucks 16 (from - 16) (length two - from) from (omega arith) (simp length-append (omega arith)) (omega arith)))
 
 pub read-instance-spec : {M : Type 1} → statement M
 read-instance-spec =

@@ -1,6 +1,6 @@
 -- `read_item`: the line fills the 16 words, so that the test on the words is the form's.
-use mathlib.Core.Path.{_≡_, refl, sym, _∙_}
-use lib.ListN.{length}
+use mathlib.Core.Path.{refl, sym}
+use native.Mathlib.Omega.{arith}
 use borrow.Author.Needs.{needs}
 use Rattle.meaning.specs.Files.{itemLine}
 use Rattle.lines.proofs.Judging.{full-read}
@@ -28,15 +28,9 @@ returns c =
     let test = c .before in
     let line = test .before .before .before .before in
     let start = line .before .before .before .before .before in
-    let out₀ = start .args .part .now in
-    let out = line .stored-line .last .1 .1 .1 .1 .0 in
-    let stored = line .stored-line .result in
-    let promised = line .stored-line .ensures in
-    let long : length out ≡ length out₀ = line .stored-line .kept .1 .1 .1 .1 .0 in
-    let full : length out ≡ 16 = long ∙ start .pre .1 in
-    rw (c .judged .ensures)
-    (full-read (start .args .file .now) out₀ out itemLine (start .args .p) stored (test .item-in-range .result) long
-    (promised .0 itemLine refl refl (sym (start .pre .1)) item-refuses-largest) (promised .1 .0) (rw full (promised .1 .1)) (test .item-in-range .ensures))
+    let stored = line .stored-line .ensures in
+    let says = stored .says itemLine refl refl (sym (start .pre .1)) item-refuses-largest in
+    rw (c .judged .ensures) (full-read stored (omega arith) itemLine says (test .item-in-range .result) (test .item-in-range .ensures))
 
 pub read-item-spec : {M : Type 1} → statement M
 read-item-spec =

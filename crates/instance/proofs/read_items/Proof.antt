@@ -4,7 +4,6 @@ use Prim.Native.Nat.{ℕ, _+_, _-_, _*_}
 use native.Mathlib.Omega.{arith}
 use lib.ListN.{length, replicate}
 use borrow.Author.Needs.{needs}
-use borrow.Rule.Slice.PartMut.{mid-len, same-len-mid}
 use Rattle.meaning.specs.Reader.{line}
 use Rattle.meaning.specs.Files.{itemLine}
 use Rattle.trucks.proofs.Repeat.{Repeat, Runs, first, next, done}
@@ -45,10 +44,7 @@ part-read-item-end : tie.Need-part-read-item-end Inv-loop μ-loop
 part-read-item-end c = search needs
 
 read-item-requires : tie.Need-read-item-requires Inv-loop μ-loop
-read-item-requires c κs =
-    let loop = c .before .before in
-    let at = 16 * loop .loop .k in
-    (loop .loop .inv .1 .sound, mid-len at (at + 16) (loop .loop .part) (omega arith) ∙ omega arith)
+read-item-requires c κs = (c .before .before .loop .inv .1 .within, omega arith)
 
 add-k : tie.Need-add-k Inv-loop μ-loop
 add-k c = search needs
@@ -58,15 +54,12 @@ loop-less c = search needs
 
 loop-again : tie.Need-loop-again Inv-loop μ-loop
 loop-again c =
-    let call = c .before .before in
-    let loop = call .before .before .before in
-    let at = 16 * loop .loop .k in
-    let lent = at + 16 - at in
-    let run = call .read-item .last .1 .1 .0 in
-    let kept = call .read-item .kept .1 .1 .0 in
-    let fills : length run ≡ lent = kept ∙ mid-len at (at + 16) (loop .loop .part) (omega arith) in (
-      same-len-mid at lent (loop .loop .part) run kept ∙ loop .loop .inv .0,
-      next (loop .loop .inv .1) (omega arith) lent (omega arith) (omega arith) fills (call .read-item .ensures),
+    let lent = c .before in
+    let call = lent .before in
+    let turn = call .before .before .before .loop in
+    let at = 16 * turn .k in (
+      omega (arith, turn .inv .0, lent .part2 .given),
+      next (turn .inv .1) (call .read-item .ensures) (omega arith) (at + 16 - at) (omega arith) (omega arith) (omega arith),
     )
 
 same-length : tie.Need-same-length Inv-loop μ-loop

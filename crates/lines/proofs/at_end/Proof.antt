@@ -19,15 +19,15 @@ enum-known-p-3 c = search needs
 
 returns : tie.Need-returns
 returns c =
-    let a = c .before .before .before .before .args in
-    let more : ltb (c .before .before .p .given .0 .0) (length (a .file .now)) ≡ true = lt-ltb _ _ (c .if1 .taken) in
-    rw (c .before .before .p .given .1, more)
+    let next = c .before .before .before in
+    let more : ltb (next .p .given .0 .0 .at) (length (next .before .before .args .file .now)) ≡ true = lt-ltb _ _ (c .if1 .taken) in
+    rw (next .p .given .1, more)
 
 returns-2 : tie.Need-returns-2
 returns-2 c =
-    let a = c .before .before .before .before .args in
-    let none : ltb (c .before .before .p .given .0 .0) (length (a .file .now)) ≡ false = le-ltb _ _ (c .if1 .left) in
-    rw (c .before .before .p .given .1, none)
+    let next = c .before .before .before in
+    let none : ltb (next .p .given .0 .0 .at) (length (next .before .before .args .file .now)) ≡ false = le-ltb _ _ (c .if1 .left) in
+    rw (next .p .given .1, none)
 
 returns-3 : tie.Need-returns-3
 returns-3 c = rw (c .before .p2 .given .1)

@@ -3,8 +3,7 @@ use Prim.Native.Nat.{_-_}
 use mathlib.Core.Path.{_≡_}
 use native.Mathlib.Omega.{arith}
 use lib.ListN.{length, take, drop, length-take, length-drop}
-use Rattle.lines.proofs.Keys.{key-of}
-use Rattle.lines.proofs.Judging.{entries-room, counted-entries}
+use Rattle.lines.proofs.Judging.{counted-entries}
 use borrow.Author.Needs.{needs}
 use Rattle.lines.proofs.counted_line.Statement.{statement}
 use Rattle.lines.proofs.counted_line.Tie as tie
@@ -21,16 +20,8 @@ part-identifiers-line-end c = search needs
 identifiers-line-requires : tie.Need-identifiers-line-requires
 identifiers-line-requires c κs = search needs
 
-entries-requires : tie.Need-entries-requires
-entries-requires c κs = search needs
-
 cast-out : tie.Need-cast-out
-cast-out c =
-    let i = c .before .before .before in
-    let s = i .before .before .before .before .before in
-    let key = key-of (s .args .key .now) (λ n. omega (arith, i .before .before .before .shared-slice-known2 .given n)) in
-    let room = entries-room _ _ _ _ (i .identifiers-line .result) _ (i .identifiers-line .ensures (key .0) (key .1)) in
-    omega (arith, s .pre, c .entries .ensures, i .identifiers-line .kept .1 .1 .1 .0)
+cast-out c = search needs
 
 slice-write-out : tie.Need-slice-write-out
 slice-write-out c = search needs
@@ -40,12 +31,11 @@ same-length c = search needs
 
 returns : tie.Need-returns
 returns c =
-    let i = c .before .before .before in
-    let s = i .before .before .before .before .before in
-    let a = s .args in
-    let out = a .out .now in
+    let call = c .before .before .before in
+    let start = call .before .before .before .before .before in
+    let out = start .args .out .now in
     let size : length (take (length out - 1) (drop 1 out)) ≡ length out - 1 = simp (length-take, length-drop) (omega arith) in
-    λ k b. counted-entries _ _ _ _ (i .identifiers-line .result) _ out _ (omega (arith, s .pre)) (c .entries .ensures) (rw size at (i .identifiers-line .ensures k b))
+    λ k b. counted-entries (length out - 1) out (omega (arith, start .pre)) (rw size at (call .identifiers-line .ensures .0 k b))
 
 pub counted-line-spec : {M : Type 1} → statement M
 counted-line-spec =
@@ -55,7 +45,6 @@ counted-line-spec =
     part-identifiers-line-start
     part-identifiers-line-end
     identifiers-line-requires
-    entries-requires
     cast-out
     slice-write-out
     same-length

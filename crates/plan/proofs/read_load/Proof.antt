@@ -1,19 +1,22 @@
 -- A load: its line is stored in words of its own, tested, judged, and what is kept of it is copied behind the loads before.
-use mathlib.Core.Path.{_≡_, refl, _∙_}
+use mathlib.Core.Path.{_≡_, refl, ap, _∙_}
 use mathlib.Core.Logic.{⊎-elim}
 use mathlib.Core.Bool.{_&&_}
-use Prim.Native.Nat.{_+_, _-_, _≤_}
+use mathlib.Core.List.{List}
+use Prim.Native.Nat.{ℕ, _+_, _-_, _≤_}
+use native.Mathlib.Nat.{sub-zero}
 use native.Mathlib.Omega.{arith}
 use lib.Dec.{leb}
-use lib.ListN.{length, take, replicate}
+use lib.ListN.{length, take}
 use lib.Seq.{length-take-le}
 use Rattle.meaning.specs.Lists.{padded}
+use Rattle.meaning.specs.Text.{Form}
 use Rattle.meaning.specs.Reader.{line}
 use Rattle.meaning.specs.Files.{loadLine}
 use Rattle.lines.specs.Progress.{ReadEntries}
-use Rattle.lines.proofs.Judging.{stored-room, zeros-behind, judged-entries}
+use Rattle.lines.proofs.Judging.{zeros-behind, judged-entries}
 use Rattle.plan.proofs.Splices.{put-spliced}
-use Rattle.plan.proofs.Judging.{load-refuses-largest, load-fits, kept-fewer, kept-room, load-within}
+use Rattle.plan.proofs.Judging.{load-refuses-largest, both-made, one-made, load-fits, kept-room, load-within}
 use borrow.Author.Needs.{needs}
 use Rattle.plan.proofs.read_load.Statement.{statement}
 use Rattle.plan.proofs.read_load.Tie as tie
@@ -30,12 +33,6 @@ stored-line-requires c κs = search needs
 entries-requires : tie.Need-entries-requires
 entries-requires c κs = search needs
 
--- the entries have room in the words of a load
-count-room : (c : tie.After-entries) → c .entries .result ≤ 64
-count-room c =
-    let line-in = c .before .before .stored-line in
-    omega (arith, c .entries .ensures, stored-room 1 _ _ (line-in .result) (line-in .ensures .1 .1))
-
 sub-all-between : tie.Need-sub-all-between
 sub-all-between c = search needs
 
@@ -43,44 +40,66 @@ part-all-between-start : tie.Need-part-all-between-start
 part-all-between-start c = search needs
 
 part-all-between-end : tie.Need-part-all-between-end
-part-all-between-end c = omega (arith, count-room (c .before))
+part-all-between-end c = search needs
 
 all-between-requires : tie.Need-all-between-requires
 all-between-requires c κs = search needs
 
-add-judged : tie.Need-add-judged
-add-judged c = omega (arith, count-room (c .before .before .before .before))
+add-judged-entries : tie.Need-add-judged-entries
+add-judged-entries c = search needs
+
+judged-entries-requires : tie.Need-judged-entries-requires
+judged-entries-requires c κs = search needs
+
+-- ---- the steps before the line is judged
+abbrev counted : tie.Joined1 → tie.After-entries
+counted c = c .before .before .before .before
+
+abbrev stored : tie.Joined1 → tie.After-stored-line
+stored c = counted c .before .before
+
+abbrev start : tie.Joined1 → tie.Start
+start c = stored c .before .before .before .before .before
 
 -- the test that is made
-tested : (c : tie.Joined1) →
-    let counted = c .before .before .before .before in
-    let a = counted .before .before .before .before .before .before .before .args in
-    c .if1 .judged ≡ (c .before .all-between .result && leb (a .loaded + counted .entries .result) (length (a .loads .now)))
-tested c = ⊎-elim (λ w. rw (w .0 .taken) (w .1)) (λ w. rw (w .0 .left) (w .1 ∙ w .0 .left)) (c .if1 .came)
+tested : (c : tie.Joined1) → c .if1 .judged-entries
+    ≡ (c .before .all-between .result && leb (start c .args .loaded + counted c .entries .result) (length (start c .args .loads .now)))
+tested c = ⊎-elim (λ w. both-made _ (w .0 .taken) (w .1)) (λ w. one-made _ (w .0 .left) (w .1)) (c .if1 .came)
 
-judged-requires : tie.Need-judged-requires
-judged-requires c κs = search needs
+-- the words of a load, with the line in them
+abbrev load : tie.Joined1 → List ℕ
+load c = stored c .stored-line .last .1 .1 .1 .1 .0
 
-entries-requires-2 : tie.Need-entries-requires-2
-entries-requires-2 c κs = search needs
+abbrev form : tie.Joined1 → Form
+form c = loadLine (length (start c .args .loads .now)) (start c .args .items) (start c .args .loaded)
 
 -- what is kept has room
-kept : (c : tie.After-entries2) →
-    let a = c .before .before .before .before .before .before .before .before .before .before .before .before .before .args in
-    (c .entries2 .result ≤ 64) × (a .loaded + c .entries2 .result ≤ length (a .loads .now))
+kept : (c : tie.After-judged-entries) → let a = start (c .before) .args in
+    (c .judged-entries .result .count ≤ 64) × (a .loaded + c .judged-entries .result .count ≤ length (a .loads .now))
 kept c =
-    let joined = c .before .before in
-    let counted = joined .before .before .before .before in
-    let start = counted .before .before .before .before .before .before .before in
-    let a = start .args in
-    let q = counted .before .before .stored-line .result in
-    let ok = joined .if1 .judged in
-    rw (c .entries2 .ensures, c .before .judged .ensures) (
-      omega (arith, count-room counted, counted .entries .ensures, kept-fewer q ok),
-      kept-room
-          q ok (joined .before .all-between .result) (a .loaded) (counted .entries .result) (length (a .loads .now))
-          (counted .entries .ensures) (tested joined) (start .pre .2),
-    )
+    let joined = c .before in
+    let many = counted joined .entries in
+    let room = kept-room (start joined .args .loaded) (many .result) _ (joined .before .all-between .result) (joined .if1 .judged-entries) (tested joined) (start joined .pre .2) in
+    rw (c .judged-entries .ensures, ← many .ensures) (omega (arith, room .0, many .ensures, stored joined .stored-line .ensures .room), room .1)
+
+-- the line is read into the words of a load
+read : (c : tie.After-judged-entries) → let joined = c .before in
+    ReadEntries (start joined .args .file .now) (line (form joined)) (padded 64) (start joined .args .p) (c .judged-entries .result) (load joined)
+read c =
+    let joined = c .before in
+    let a = start joined .args in
+    let promised = stored joined .stored-line .ensures in
+    let words = load joined in
+    let f = form joined in
+    let long : length words ≡ 64 = stored joined .stored-line .kept .1 .1 .1 .1 .0 in
+    let many = counted joined .entries in
+    let fits =
+    load-fits words (length (a .loads .now)) (a .items) (a .loaded) (many .result) (omega (arith, many .ensures, promised .room))
+    (joined .before .all-between .ensures) (tested joined)
+    in
+    rw (c .judged-entries .ensures)
+    (judged-entries promised f (padded 64) (promised .says f refl refl refl (load-refuses-largest _ (a .items) (a .loaded) (omega arith)))
+    (joined .if1 .judged-entries) (λ has. fits ∙ ap (λ (k : ℕ). f .fits (take k words)) (many .ensures)) (λ has. zeros-behind 64 _ words (promised .room) long (promised .behind has)) long)
 
 sub-copy-words : tie.Need-sub-copy-words
 sub-copy-words c = search needs
@@ -112,47 +131,19 @@ copy-words-requires c κs = search needs
 same-length : tie.Need-same-length
 same-length c = search needs
 
--- the line is read into the words of a load
-read : (c : tie.After-judged) →
-    let line-in = c .before .before .before .before .before .before .before .stored-line in
-    let a = c .before .before .before .before .before .before .before .before .before .before .before .before .args in
-    let f = loadLine (length (a .loads .now)) (a .items) (a .loaded) in
-    ReadEntries (a .file .now) (line f) (padded 64) (a .p) (c .judged .result) (line-in .last .1 .1 .1 .1 .0)
-read c =
-    let joined = c .before in
-    let counted = joined .before .before .before .before in
-    let line-in = counted .before .before .stored-line in
-    let start = counted .before .before .before .before .before .before .before in
-    let a = start .args in
-    let load = line-in .last .1 .1 .1 .1 .0 in
-    let long : length load ≡ 64 = line-in .kept .1 .1 .1 .1 .0 in
-    let most = length (a .loads .now) in
-    let f = loadLine most (a .items) (a .loaded) in
-    let count = counted .entries .result in
-    let says = line-in .ensures .0 f refl refl refl (load-refuses-largest most (a .items) (a .loaded) (omega arith)) in
-    let fits = load-fits load most (a .items) (a .loaded) count (omega (arith, count-room counted)) in
-    let ok : joined .if1 .judged ≡ f .fits (take (count - 0) load) = rw (joined .before .all-between .ensures) at (tested joined) ∙ fits in
-    judged-entries
-    (a .file .now) (replicate 64 0) load 1 f (padded 64) (a .p) long (λ k least room behind. zeros-behind 64 k load room long behind)
-    (line-in .result) (c .judged .result) (joined .if1 .judged) count says (line-in .ensures .1 .0) (line-in .ensures .1 .1) (counted .entries .ensures)
-    ok (c .judged .ensures)
-
 returns : tie.Need-returns
 returns c =
     let copied = c .before .before in
-    let ended = copied .before .before .before .before in
-    let line-in = ended .before .before .before .before .before .before .before .before .stored-line in
-    let start = ended .before .before .before .before .before .before .before .before .before .before .before .before .before in
-    let a = start .args in
-    let load = line-in .last .1 .1 .1 .1 .0 in
-    let f = loadLine (length (a .loads .now)) (a .items) (a .loaded) in
-    let first = ended .entries2 .result - 0 in
-    let size = a .loaded + ended .entries2 .result - a .loaded in
-    let many : length (take first load) ≡ size = length-take-le first load (omega (arith, kept ended)) ∙ omega arith in
-    let within = load-within (a .file .now) (a .loads .now) load (line f) 64 (a .loaded) first (a .p) (ended .before .judged .result) in (
-      rw (copied .copy-words .ensures, put-spliced (a .loaded) (a .loads .now) (take first load) size many)
-          (within (omega (arith, ended .entries2 .ensures)) (read (ended .before))),
-      rw (ended .entries2 .ensures) at (kept ended .1),
+    let judged = copied .before .before .before .before in
+    let joined = judged .before in
+    let a = start joined .args in
+    let words = load joined in
+    let count = judged .judged-entries .result .count in
+    let size = a .loaded + count - a .loaded in
+    let many : length (take (count - 0) words) ≡ size = length-take-le (count - 0) words (omega (arith, kept judged)) ∙ omega arith in (
+      rw (copied .copy-words .ensures, put-spliced (a .loaded) (a .loads .now) (take (count - 0) words) size many)
+          (load-within 64 (a .loads .now) (a .loaded) (count - 0) (sub-zero count) (read judged)),
+      kept judged .1,
     )
 
 pub read-load-spec : {M : Type 1} → statement M
@@ -167,9 +158,8 @@ read-load-spec =
     part-all-between-start
     part-all-between-end
     all-between-requires
-    add-judged
-    judged-requires
-    entries-requires-2
+    add-judged-entries
+    judged-entries-requires
     sub-copy-words
     part-copy-words-start
     part-copy-words-end

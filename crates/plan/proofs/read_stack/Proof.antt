@@ -10,18 +10,21 @@ use Rattle.plan.proofs.StackLines.{stack-read}
 use Rattle.plan.proofs.read_stack.Statement.{statement}
 use Rattle.plan.proofs.read_stack.Tie as tie
 
-module _ (c : tie.After-entries) where
+module _ (c : tie.After-slice-known3) where
   -- where the load is read
   abbrev load : tie.After-read-load
-  load = c .before .before .before
+  load = c .before .before
 
   -- where the stack's line is read
   abbrev row : tie.After-read-stack-row
   row = load .before .before .before .before
 
+  abbrev start : tie.Start
+  start = row .before .before .before .before .before
+
   -- where the loads begin
   abbrev from : ℕ
-  from = 8 * row .before .before .before .before .before .args .limits .stacks
+  from = 8 * start .args .limits .stacks
 
   -- the part with the line's fields in it
   abbrev part : List ℕ
@@ -32,7 +35,7 @@ module _ (c : tie.After-entries) where
   loads = load .read-load .last .1 .1 .1 .1 .0
 
   -- with them the part has its length again
-  same-part : length (putMid from (length part - from) part loads) ≡ length (row .before .before .before .before .before .args .part .now)
+  same-part : length (putMid from (length part - from) part loads) ≡ length (start .args .part .now)
   same-part = same-len-mid from (length part - from) part loads (load .read-load .kept .1 .1 .1 .1 .0) ∙ row .read-stack-row .kept .1 .1 .1 .1 .0
 
 mul-row : tie.Need-mul-row
@@ -71,9 +74,6 @@ mul-part c = search needs
 slice-write-part : tie.Need-slice-write-part
 slice-write-part c = search needs
 
-entries-requires : tie.Need-entries-requires
-entries-requires c κs = search needs
-
 cast-part-2 : tie.Need-cast-part-2
 cast-part-2 c = search needs
 
@@ -86,17 +86,23 @@ mul-part-2 c = search needs
 slice-write-part-2 : tie.Need-slice-write-part-2
 slice-write-part-2 c = simp length-set (omega (arith, same-part c))
 
+add-t19 : tie.Need-add-t19
+add-t19 c = search needs
+
+add-t17 : tie.Need-add-t17
+add-t17 c = search needs
+
 same-length : tie.Need-same-length
 same-length c = simp length-set (same-part c)
 
 returns : tie.Need-returns
 returns c =
-    let start = row c .before .before .before .before .before in
-    let a = start .args in
-    stack-read (a .limits) (a .items) (a .trucks) (a .k) (a .loaded) (c .entries .result) (a .file .now) (a .part .now) (part c) (loads c)
-    (a .p) (row c .read-stack-row .result) (load c .read-load .result)
-    (omega arith) (omega arith) (start .pre .6) (row c .read-stack-row .kept .1 .1 .1 .1 .0) (load c .read-load .kept .1 .1 .1 .1 .0) (row c .read-stack-row .ensures)
-    (load c .read-load .ensures .0) (load c .read-load .ensures .1) (c .entries .ensures)
+    let a = start c .args in
+    let read = row c .read-stack-row in
+    let last = load c .read-load in
+    stack-read (a .limits) (a .counts) (a .file .now) (a .part .now) (part c) (loads c) (a .q) (read .result) (last .result)
+    (omega arith) (omega arith) (start c .pre .5) (read .kept .1 .1 .1 .1 .0) (last .kept .1 .1 .1 .1 .0) (read .ensures)
+    (last .ensures .0) (last .ensures .1)
 
 pub read-stack-spec : {M : Type 1} → statement M
 read-stack-spec =
@@ -114,10 +120,11 @@ read-stack-spec =
     add-part
     mul-part
     slice-write-part
-    entries-requires
     cast-part-2
     add-part-2
     mul-part-2
     slice-write-part-2
+    add-t19
+    add-t17
     same-length
     returns)

@@ -5,14 +5,15 @@ use mathlib.Core.Bool.{not, _&&_}
 use Prim.Native.Nat.{_*_, _+_, _-_}
 use native.Mathlib.Omega.{arith}
 use lib.ListN.{length}
-use borrow.Rule.Slice.PartMut.{midOf, mid-len}
+use borrow.Rule.Slice.PartMut.{mid-len}
 use Rattle.meaning.specs.Reader.{line}
 use Rattle.meaning.specs.Files.{stackLine}
-use Rattle.plan.specs.Words.{spliced, rowNumbers}
+use Rattle.ranges.specs.Ranges.{rowNumbers}
+use Rattle.plan.specs.Words.{spliced}
 use Rattle.plan.proofs.Splices.{put-spliced}
 use Rattle.lines.proofs.Follow.{read-within}
 use Rattle.lines.proofs.Judging.{full-read}
-use Rattle.plan.proofs.Judging.{stack-refuses-largest, row-fits}
+use Rattle.plan.proofs.Judging.{stack-refuses-largest, both-made, one-made, row-fits}
 use borrow.Author.Needs.{needs}
 use Rattle.plan.proofs.read_stack_row.Statement.{statement}
 use Rattle.plan.proofs.read_stack_row.Tie as tie
@@ -70,7 +71,7 @@ is-repeated-requires c κs = search needs
 
 -- the test that is made
 tested : (c : tie.Joined1) → c .if1 .judged ≡ (c .before .before .before .stack-in-range .result && not (c .before .is-repeated .result))
-tested c = ⊎-elim (λ w. rw (w .0 .taken) (w .1)) (λ w. rw (w .0 .left) (w .1 ∙ w .0 .left)) (c .if1 .came)
+tested c = ⊎-elim (λ w. both-made _ (w .0 .taken) (w .1)) (λ w. one-made _ (w .0 .left) (w .1)) (c .if1 .came)
 
 judged-requires : tie.Need-judged-requires
 judged-requires c κs = search needs
@@ -83,25 +84,22 @@ returns c =
     let joined = c .before in
     let sought = joined .before in
     let ranged = sought .before .before in
-    let line-in = ranged .before .before .before .before .before .stored-line in
-    let start = ranged .before .before .before .before .before .before .before .before .before .before in
+    let line-in = ranged .before .before .before .before .before in
+    let start = line-in .before .before .before .before .before in
     let a = start .args in
     let at = 8 * a .k in
     let size = at + 6 - at in
-    let row = line-in .last .1 .1 .1 .1 .0 in
-    let same = line-in .kept .1 .1 .1 .1 .0 in
-    let earlier = rowNumbers (a .k) (a .part .now) in
-    let f = stackLine (a .trucks) earlier in
+    let row = line-in .stored-line .last .1 .1 .1 .1 .0 in
+    let f = stackLine (a .trucks) (rowNumbers (a .k) (a .part .now)) in
+    let same = line-in .stored-line .kept .1 .1 .1 .1 .0 in
     let long : length row ≡ size = same ∙ mid-len at (at + 6) (a .part .now) (omega arith) in
     let fits = row-fits (a .part .now) row (a .trucks) (a .k) size (omega arith) long (omega arith) in
     let ok : joined .if1 .judged ≡ f .fits row = rw (ranged .stack-in-range .ensures, sought .is-repeated .ensures, fits) at (tested joined) in
-    let says = line-in .ensures .0 f refl refl (omega (arith, same)) (stack-refuses-largest (a .trucks) earlier (omega arith)) in
-    let six : length row ≡ 6 = omega arith in
+    let stored = line-in .stored-line .ensures in
+    let says = stored .says f refl refl (omega (arith, same)) (stack-refuses-largest (a .trucks) _ (omega arith)) in
     rw (put-spliced at (a .part .now) row size long, c .judged .ensures)
     (read-within (a .file .now) (line f) (λ ns. ns) (a .p) _ row (λ fields. spliced at fields (a .part .now))
-    (full-read
-    (a .file .now) (midOf at size (a .part .now)) row f (a .p) (line-in .result) (joined .if1 .judged) same
-    says (line-in .ensures .1 .0) (rw six (line-in .ensures .1 .1)) ok))
+    (full-read stored (omega arith) f says (joined .if1 .judged) ok))
 
 pub read-stack-row-spec : {M : Type 1} → statement M
 read-stack-row-spec =

@@ -1,12 +1,12 @@
 -- `trucks::read_docks` meets its contract: before each turn the suppliers so far have their words.
 use mathlib.Core.Path.{_≡_, refl, ap, _∙_}
-use Prim.Native.Nat.{ℕ, _-_}
+use Prim.Native.Nat.{ℕ, _-_, _≤_}
 use native.Mathlib.Omega.{arith}
 use borrow.Author.Needs.{needs}
 use lib.ListN.{length, replicate, length-set}
 use Rattle.meaning.specs.Reader.{line}
 use Rattle.meaning.specs.Files.{docksLine}
-use Rattle.lines.proofs.Judging.{entries-room}
+use Rattle.lines.proofs.Judging.{read-count}
 use Rattle.trucks.specs.Rows.{dockWords}
 use Rattle.trucks.proofs.Repeat.{Repeat, repeat-first, repeat-next, repeat-done}
 use Rattle.trucks.proofs.Docks.{Docks, docks-clear, docks-lent, docks-more, docks-words}
@@ -14,10 +14,10 @@ use Rattle.trucks.proofs.read_docks.Statement.{statement}
 use Rattle.trucks.proofs.read_docks.Tie as tie
 
 abbrev Inv-loop : tie.InvT-loop
-Inv-loop file suppliers part₀ q₀ k₀ t8 part q k = (length part ≡ 72) × Repeat file (line docksLine) Docks suppliers q₀ part q k
+Inv-loop file suppliers part₀ q₀ k₀ t9 part q k = (length part ≡ 72) × (suppliers ≤ 8) × Repeat file (line docksLine) Docks suppliers q₀ part q k
 
 abbrev μ-loop : tie.MeasureT-loop
-μ-loop file suppliers part₀ q₀ k₀ t8 part q k = suppliers - k
+μ-loop file suppliers part₀ q₀ k₀ t9 part q k = suppliers - k
 
 clear-requires : tie.Need-clear-requires Inv-loop μ-loop
 clear-requires c κs = search needs
@@ -27,7 +27,7 @@ loop-holds c =
     let cleared = c .before .before .clear in
     let start = c .before .before .before .before .before .before in
     let long = start .pre .2 in
-    (cleared .kept .0 ∙ long, repeat-first _ _ _ (start .pre .0) (docks-clear _ (cleared .ensures ∙ ap (λ (n : ℕ). replicate n 0) long)))
+    (cleared .kept .0 ∙ long, start .pre .1, repeat-first _ _ _ (start .pre .0) (docks-clear _ (cleared .ensures ∙ ap (λ (n : ℕ). replicate n 0) long)))
 
 mul-first : tie.Need-mul-first Inv-loop μ-loop
 mul-first c = search needs
@@ -56,15 +56,8 @@ part-identifiers-line-end c = search needs
 identifiers-line-requires : tie.Need-identifiers-line-requires Inv-loop μ-loop
 identifiers-line-requires c κs = search needs
 
-entries-requires : tie.Need-entries-requires Inv-loop μ-loop
-entries-requires c κs = search needs
-
 cast-part : tie.Need-cast-part Inv-loop μ-loop
-cast-part c =
-    let turn = c .before .before .before .before .before .before .before .loop in
-    let read = c .before .before .before .identifiers-line in
-    let eight = docks-lent (turn .k) (turn .part) (omega arith) in
-    omega (arith, c .entries .ensures, entries-room _ _ _ _ (read .result) _ (read .ensures "docks=" refl), read .kept .1 .1 .1 .0 ∙ eight)
+cast-part c = search needs
 
 mul-part : tie.Need-mul-part Inv-loop μ-loop
 mul-part c = search needs
@@ -80,21 +73,22 @@ loop-less c = search needs
 
 loop-again : tie.Need-loop-again Inv-loop μ-loop
 loop-again c =
-    let turn = c .before .before .before .before .before .before .before .loop in
-    let read = c .before .before .before .identifiers-line in
+    let lent = c .before .before in
+    let call = lent .before in
+    let turn = call .before .before .before .before .loop in
     let eight = docks-lent (turn .k) (turn .part) (omega arith) in
-    let docks = rw eight at (read .ensures "docks=" refl) in (
-      simp length-set (omega (arith, turn .inv .0, c .before .before .part2 .given)),
-      repeat-next (turn .inv .1) (omega arith) (docks .into) _ (λ ds s g.
-          docks-more s (omega arith) (read .last .1 .1 .1 .0) (docks .into .value) (c .entries .result) (read .kept .1 .1 .1 .0 ∙ eight) (docks .into .holds g)
-          (c .entries .ensures ∙ docks .count g)),
+    let docks = rw eight at (call .identifiers-line .ensures .0 "docks=" refl) in (
+      simp length-set (omega (arith, turn .inv .0, lent .part2 .given)),
+      turn .inv .1,
+      repeat-next (turn .inv .2) (omega arith) (docks .into) _ (λ ds s g.
+          docks-more s (omega arith) _ (docks .into .value) _ (omega arith) (docks .into .holds g) (read-count docks g)),
     )
 
 same-length : tie.Need-same-length Inv-loop μ-loop
 same-length c = search needs
 
 returns : tie.Need-returns Inv-loop μ-loop
-returns c = repeat-done (c .before .loop .inv .1) dockWords (omega arith) docks-words
+returns c = repeat-done (c .before .loop .inv .2) dockWords (omega arith) docks-words
 
 pub read-docks-spec : {M : Type 1} → statement M
 read-docks-spec =
@@ -113,7 +107,6 @@ read-docks-spec =
     part-identifiers-line-start
     part-identifiers-line-end
     identifiers-line-requires
-    entries-requires
     cast-part
     mul-part
     slice-write-part

@@ -5,13 +5,33 @@ use Prim.Native.Nat.{ℕ, _+_, _≤_}
 use native.Mathlib.Omega.{arith}
 use borrow.Author.Needs.{needs}
 use lib.ListN.{length, take, drop}
+use Rattle.meaning.specs.Files.{suppliersLine}
+use Rattle.lines.proofs.Judging.{few-counted}
 use Rattle.trucks.proofs.Repeat.{Front, front-cleared, front-length, front-lent, front-back}
-use Rattle.trucks.proofs.Entries.{entries-counted}
 use Rattle.trucks.proofs.Truck.{truck-read}
 use Rattle.trucks.proofs.read_truck.Statement.{statement}
 use Rattle.trucks.proofs.read_truck.Tie as tie
 
--- words that fill the part up to a place
+-- ---- the way back, from each call to the one before
+abbrev docks : tie.After-counted-line3 → tie.After-read-docks
+docks c = c .before .before .before .before .before
+
+abbrev suppliers : tie.After-read-docks → tie.After-counted-line2
+suppliers c = c .before .before .before .before
+
+abbrev products : tie.After-counted-line2 → tie.After-counted-line
+products c = c .before .before .before .before .before
+
+abbrev row : tie.After-counted-line → tie.After-read-truck-fields
+row c = c .before .before .before .before .before
+
+abbrev cleared : tie.After-read-truck-fields → tie.After-clear
+cleared c = c .before .before .before .before
+
+abbrev start : tie.After-clear → tie.Start
+start c = c .before .before .before .before
+
+-- ---- words that fill the part up to a place
 abbrev Upto : ℕ → Type 0
 Upto at = (ws : List ℕ) × (out : List ℕ) × Front 160 at ws out
 
@@ -20,28 +40,22 @@ abbrev behind : {at : ℕ} (u : Upto at) (k : ℕ) (run : List ℕ) → at + k �
 behind u k run room kept = (_, _, front-back (u .2) k run room kept)
 
 abbrev after-clear : tie.After-clear → Upto 0
-after-clear c =
-    let start = c .before .before .before .before in
-    (_, _, front-cleared 160 (start .args .part .now) (c .clear .last .0) (start .pre .1) (c .clear .ensures))
+after-clear c = (_, _, front-cleared 160 (start c .args .part .now) (c .clear .last .0) (start c .pre .1) (c .clear .ensures))
 
 abbrev after-row : tie.After-read-truck-fields → Upto 20
-after-row c = behind (after-clear (c .before .before .before .before)) 20 (c .read-truck-fields .last .1 .1 .0) (omega arith) (c .read-truck-fields .kept .1 .1 .0)
+after-row c = behind (after-clear (cleared c)) 20 (c .read-truck-fields .last .1 .1 .0) (omega arith) (c .read-truck-fields .kept .1 .1 .0)
 
 abbrev after-products : tie.After-counted-line → Upto 53
-after-products c =
-    behind (after-row (c .before .before .before .before .before)) 33 (c .counted-line .last .1 .1 .1 .0) (omega arith) (c .counted-line .kept .1 .1 .1 .0)
+after-products c = behind (after-row (row c)) 33 (c .counted-line .last .1 .1 .1 .0) (omega arith) (c .counted-line .kept .1 .1 .1 .0)
 
 abbrev after-suppliers : tie.After-counted-line2 → Upto 62
-after-suppliers c =
-    behind (after-products (c .before .before .before .before .before)) 9 (c .counted-line2 .last .1 .1 .1 .0) (omega arith) (c .counted-line2 .kept .1 .1 .1 .0)
+after-suppliers c = behind (after-products (products c)) 9 (c .counted-line2 .last .1 .1 .1 .0) (omega arith) (c .counted-line2 .kept .1 .1 .1 .0)
 
 abbrev after-docks : tie.After-read-docks → Upto 134
-after-docks c =
-    behind (after-suppliers (c .before .before .before .before .before)) 72 (c .read-docks .last .1 .1 .1 .0) (omega arith) (c .read-docks .kept .1 .1 .1 .0)
+after-docks c = behind (after-suppliers (suppliers c)) 72 (c .read-docks .last .1 .1 .1 .0) (omega arith) (c .read-docks .kept .1 .1 .1 .0)
 
 abbrev after-plant-docks : tie.After-counted-line3 → Upto 143
-after-plant-docks c =
-    behind (after-docks (c .before .before .before .before .before)) 9 (c .counted-line3 .last .1 .1 .1 .0) (omega arith) (c .counted-line3 .kept .1 .1 .1 .0)
+after-plant-docks c = behind (after-docks (docks c)) 9 (c .counted-line3 .last .1 .1 .1 .0) (omega arith) (c .counted-line3 .kept .1 .1 .1 .0)
 
 sub-clear : tie.Need-sub-clear
 sub-clear c = search needs
@@ -96,11 +110,8 @@ part-counted-line-end-2 c = search needs
 
 counted-line-requires-2 : tie.Need-counted-line-requires-2
 counted-line-requires-2 c κs =
-    let products = c .before .before .before .before in
-    (products .counted-line .ensures "products=" refl .into .sound, omega arith, omega arith)
-
-entries-requires : tie.Need-entries-requires
-entries-requires c κs = search needs
+    let call = c .before .before .before .before in
+    (call .counted-line .ensures "products=" refl .into .within, omega arith, omega arith)
 
 sub-read-docks : tie.Need-sub-read-docks
 sub-read-docks c = search needs
@@ -113,11 +124,9 @@ part-read-docks-end c = search needs
 
 read-docks-requires : tie.Need-read-docks-requires
 read-docks-requires c κs =
-    let suppliers = c .before .before .before .before in
-    let nine = front-lent (after-products (suppliers .before .before .before .before .before) .2) 9 (omega arith) in
-    let read = rw nine at (suppliers .counted-line2 .ensures "suppliers=" refl) in
-    let few = entries-counted 8 read (suppliers .counted-line2 .kept .1 .1 .1 .0 ∙ nine) in
-    (read .into .sound, omega (arith, c .before .entries .ensures), front-lent (after-suppliers suppliers .2) 72 (omega arith))
+    let call = c .before .before .before in
+    let read = rw (front-lent (after-products (products call) .2) 9 (omega arith)) at (call .counted-line2 .ensures "suppliers=" refl) in
+    (read .into .within, few-counted suppliersLine read, front-lent (after-suppliers call .2) 72 (omega arith))
 
 slice-aggregate-counted-line-3 : tie.Need-slice-aggregate-counted-line-3
 slice-aggregate-counted-line-3 c = search needs
@@ -129,34 +138,32 @@ part-counted-line-start-3 : tie.Need-part-counted-line-start-3
 part-counted-line-start-3 c = search needs
 
 part-counted-line-end-3 : tie.Need-part-counted-line-end-3
-part-counted-line-end-3 c = search needs
+part-counted-line-end-3 c = omega (arith, front-length (after-docks (c .before .before .before) .2) (omega arith))
 
 counted-line-requires-3 : tie.Need-counted-line-requires-3
 counted-line-requires-3 c κs =
-    let docks = c .before .before .before .before in
-    (docks .read-docks .ensures .sound, omega arith, omega arith)
+    let call = c .before .before .before .before in
+    let nine = front-lent (after-docks call .2) 9 (omega arith) in
+    (call .read-docks .ensures .within, omega arith, omega arith)
 
 same-length : tie.Need-same-length
 same-length c =
-    let docks = c .before .before .before .before .before .before .before in
-    let products = docks .before .before .before .before .before .before .before .before .before .before in
-    let start = products .before .before .before .before .before .before .before .before .before .before .before .before .before in
-    front-length (after-plant-docks (c .before .before) .2) (omega arith) ∙ sym (start .pre .1)
+    let call = c .before .before in
+    front-length (after-plant-docks call .2) (omega arith) ∙ sym (start (cleared (row (products (suppliers (docks call))))) .pre .1)
 
 returns : tie.Need-returns
 returns c =
-    let plantDocks = c .before .before in
-    let docks = plantDocks .before .before .before .before .before in
-    let suppliers = docks .before .before .before .before .before in
-    let products = suppliers .before .before .before .before .before in
-    let row = products .before .before .before .before .before in
-    let entries = docks .before .before .entries in
-    truck-read (row .read-truck-fields .ensures)
-    (rw (front-lent (after-row row .2) 33 (omega arith)) at (products .counted-line .ensures "products=" refl))
-    (rw (front-lent (after-products products .2) 9 (omega arith)) at (suppliers .counted-line2 .ensures "suppliers=" refl))
-    (entries .result) (entries .ensures) (docks .read-docks .ensures)
-    (rw (front-lent (after-docks docks .2) 9 (omega arith)) at (plantDocks .counted-line3 .ensures "plantdocks=" refl))
-    (after-plant-docks plantDocks .2)
+    let fifth = c .before .before in
+    let fourth = docks fifth in
+    let third = suppliers fourth in
+    let second = products third in
+    let first = row second in
+    truck-read (first .read-truck-fields .ensures)
+    (rw (front-lent (after-row first .2) 33 (omega arith)) at (second .counted-line .ensures "products=" refl))
+    (rw (front-lent (after-products second .2) 9 (omega arith)) at (third .counted-line2 .ensures "suppliers=" refl))
+    (fourth .read-docks .ensures)
+    (rw (front-lent (after-docks fourth .2) 9 (omega arith)) at (fifth .counted-line3 .ensures "plantdocks=" refl))
+    (after-plant-docks fifth .2)
 
 pub read-truck-spec : {M : Type 1} → statement M
 read-truck-spec =
@@ -180,7 +187,6 @@ read-truck-spec =
     part-counted-line-start-2
     part-counted-line-end-2
     counted-line-requires-2
-    entries-requires
     sub-read-docks
     part-read-docks-start
     part-read-docks-end

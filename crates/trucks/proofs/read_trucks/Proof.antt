@@ -3,7 +3,6 @@ use mathlib.Core.Path.{_≡_, refl, sym, ap, _∙_}
 use Prim.Native.Nat.{ℕ, _+_, _-_, _*_}
 use native.Mathlib.Omega.{arith}
 use borrow.Author.Needs.{needs}
-use borrow.Rule.Slice.PartMut.{mid-len}
 use lib.ListN.{length, replicate}
 use Rattle.meaning.specs.Files.{truckLines}
 use Rattle.meaning.specs.Table.{truckWords}
@@ -46,9 +45,7 @@ part-read-truck-end : tie.Need-part-read-truck-end Inv-loop μ-loop
 part-read-truck-end c = search needs
 
 read-truck-requires : tie.Need-read-truck-requires Inv-loop μ-loop
-read-truck-requires c κs =
-    let turn = c .before .before .loop in
-    (turn .inv .1 .sound, mid-len (160 * turn .k) (160 * turn .k + 160) (turn .part) (omega arith) ∙ omega arith)
+read-truck-requires c κs = (c .before .before .loop .inv .1 .within, omega arith)
 
 add-k : tie.Need-add-k Inv-loop μ-loop
 add-k c = search needs
@@ -58,11 +55,12 @@ loop-less c = search needs
 
 loop-again : tie.Need-loop-again Inv-loop μ-loop
 loop-again c =
-    let turn = c .before .before .before .before .before .loop in
-    let read = c .before .before .read-truck in
-    let lent = mid-len (160 * turn .k) (160 * turn .k + 160) (turn .part) (omega arith) in (
-      omega (arith, turn .inv .0, c .before .part2 .given),
-      next (turn .inv .1) (omega arith) _ (omega arith) (omega arith) (read .kept .1 .1 .0 ∙ lent) (read .ensures),
+    let lent = c .before in
+    let call = lent .before in
+    let turn = call .before .before .before .loop in
+    let at = 160 * turn .k in (
+      omega (arith, turn .inv .0, lent .part2 .given),
+      next (turn .inv .1) (call .read-truck .ensures) (omega arith) (at + 160 - at) (omega arith) (omega arith) (omega arith),
     )
 
 same-length : tie.Need-same-length Inv-loop μ-loop
