@@ -155,7 +155,7 @@ fn read_named(limits: Limits, instance: &[u8], plan: &[u8], words: &mut [u32]) -
 }
 
 // Reads both files within the limits. Only the named words change, and none of a table that is too short.
-pub fn read_within(limits: Limits, instance: &[u8], plan: &[u8], table: &mut [u32]) -> FilesRead
+fn read_within(limits: Limits, instance: &[u8], plan: &[u8], table: &mut [u32]) -> FilesRead
     requires { ⌜ Bounded limits ⌝ }
     ensures { λ r. ⌜ ReadPromise limits (now (instance .entry)) (now (plan .entry)) (now (table .entry)) (now (table .exit)) r ⌝ }
 {
