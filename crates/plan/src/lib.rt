@@ -91,10 +91,10 @@ fn read_load(
 }
 
 // How far the stacks are read: how many of them, and how many entries their loads hold.
-pub struct StacksRead {
-    pub progress: Progress,
-    pub stacks: usize,
-    pub loaded: usize,
+struct StacksRead {
+    progress: Progress,
+    stacks: usize,
+    loaded: usize,
 }
 
 // The next stack: its line, its load, and where the load stands.

@@ -1,7 +1,7 @@
 -- Tests over the words from an index on: what a word decides of them, and how they end.
 use mathlib.Core.Path.{_≡_, refl, ap}
 use mathlib.Core.Bool.{Bool, true, false, _&&_, _||_}
-use mathlib.Core.List.{List, [], _∷_, map}
+use mathlib.Core.List.{List, [], _∷_}
 use Prim.Native.Nat.{ℕ, _+_, _-_, _*_, _≤_, _<_}
 use native.Mathlib.Numerals.{add-one}
 use native.Mathlib.Omega.{arith}
@@ -9,12 +9,9 @@ use lib.Dec.{eqb}
 use lib.ListN.{length, getD, take, drop, length-drop, drop-of-length-le}
 use lib.Seq.{take-all}
 use Rattle.meaning.specs.Lists.{all, any, between, listed, distinct}
-use Rattle.meaning.specs.Files.{Range, _to_, allWithin}
-use Rattle.meaning.specs.declared.Limits.{Limits}
-use Rattle.meaning.specs.Table.{largestWord}
-use Rattle.meaning.proofs.Lists.{drop-next, drop-back, every-at, map-at}
-use Rattle.table.specs.Filled.{Bounded}
-use Rattle.ranges.specs.Ranges.{rangesBetween, headRanges, headRange, rowNumbers}
+use Rattle.meaning.specs.Files.{allWithin}
+use Rattle.meaning.proofs.Lists.{drop-next, drop-back}
+use Rattle.ranges.specs.Ranges.{rangesBetween, rowNumbers}
 
 -- ---- the words from an index on, and the word before them
 module _ (ws : List ℕ) (i : ℕ) (some : 0 < i) (h : i ≤ length ws) where
@@ -73,14 +70,3 @@ module _ (part : List ℕ) (number : ℕ) where
       → eqb number (getD part (8 * k) 0) || repeated ≡ listed number (rowNumbers (k + 1) part)
   unfolding any rowNumbers
   repeated-next k repeated e = rw add-one (ap (λ b. eqb number (getD part (8 * k) 0) || b) e)
-
--- ---- a number by its place: the ends at the place are those of the range at the place
-pub ends-at : (rs : List Range) (place n : ℕ) → place < length rs
-    → between (getD (map (λ (r : Range). r .low) rs) place 0) (getD (map (λ (r : Range). r .high) rs) place 0) n
-    ≡ between (getD rs place (0 to 0) .low) (getD rs place (0 to 0) .high) n
-ends-at rs place n h =
-    rw (map-at (λ (r : Range). r .low) rs place (0 to 0) 0 h, map-at (λ (r : Range). r .high) rs place (0 to 0) 0 h) refl
-
--- a number of the head is below the largest word
-pub head-below : (m : Limits) → Bounded m → (place : ℕ) → place < 6 → headRange m place .high < largestWord
-head-below m b place h = every-at (λ (r : Range). r .high < largestWord) (headRanges m) (0 to 0) place (omega (arith, b .words)) h

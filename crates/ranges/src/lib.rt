@@ -28,7 +28,7 @@ pub const LAST_DAY: u32 = 399;
 // ---- any words. Most pass their test, so the loops are not left early: without branches the compiler tests several words at once
 
 // Whether each word lies in its range.
-pub fn in_ranges(words: &[u32], lows: &[u32], highs: &[u32]) -> bool
+fn in_ranges(words: &[u32], lows: &[u32], highs: &[u32]) -> bool
     requires { ⌜ (length (now words) ≤ length (now lows)) × (length (now words) ≤ length (now highs)) ⌝ }
     ensures { λ r. ⌜ r ≡ allWithin (rangesBetween (now (lows .entry)) (now (highs .entry))) (now (words .entry)) ⌝ }
 {
@@ -55,7 +55,7 @@ pub fn all_between(words: &[u32], low: u32, high: u32) -> bool
 }
 
 // Whether no word is listed twice.
-pub fn are_distinct(words: &[u32]) -> bool
+fn are_distinct(words: &[u32]) -> bool
     ensures { λ r. ⌜ r ≡ distinct (now (words .entry)) ⌝ }
 {
     let mut i = 0;

@@ -3,7 +3,7 @@ use mathlib.Core.Path.{refl, sym, _∙_}
 use native.Mathlib.Omega.{arith}
 use Rattle.meaning.proofs.Tests.{between-reads}
 use Rattle.ranges.specs.Ranges.{headRange}
-use Rattle.ranges.proofs.Scan.{head-below}
+use Rattle.ranges.proofs.Ends.{head-below}
 use Rattle.lines.proofs.Number.{out-of-range, number-says}
 use borrow.Author.Needs.{needs}
 use Rattle.lines.proofs.head_line.Statement.{statement}

@@ -28,9 +28,7 @@ returns c =
     let stacks = c .before .before .before in
     let announced = stacks .before .before in
     let a = announced .before .before .before .before .args in
-    plan-read (a .limits) (a .counts) (a .file .now) (stacks .read-stacks .last .1 .1 .1 .1 .1 .0) (announced .head-line .result .value)
-    (announced .head-line .result .progress) (stacks .read-stacks .result) (c .at-end .result)
-    (announced .head-line .ensures .0 "stacks=" refl) (stacks .read-stacks .ensures) (c .at-end .ensures)
+    plan-read (a .limits) (a .counts) (a .file .now) _ _ _ _ _ (announced .head-line .ensures .0 "stacks=" refl) (stacks .read-stacks .ensures) (c .at-end .ensures)
 
 pub read-plan-spec : {M : Type 1} → statement M
 read-plan-spec =

@@ -1,7 +1,7 @@
 -- The ends at the number's place are those of its range.
 use borrow.Author.Needs.{needs}
 use Rattle.ranges.specs.Ranges.{headRanges}
-use Rattle.ranges.proofs.Scan.{ends-at}
+use Rattle.ranges.proofs.Ends.{ends-at}
 use Rattle.ranges.proofs.head_number_in_range.Statement.{statement}
 use Rattle.ranges.proofs.head_number_in_range.Tie as tie
 
