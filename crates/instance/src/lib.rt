@@ -12,8 +12,8 @@ ghost use Rattle.instance.specs.Words.{HeadPromise, instanceFile, instan
 use lines::Progress;
 use lines::START;
 use lines::at_end;
+use lines::head_line;
 use lines::judged;
-use lines::number_line;
 use lines::stored_line;
 use meaning::Limits;
 use ranges::LAST_DAY;
@@ -73,15 +73,15 @@ fn read_head(limits: Limits, file: &[u8], part: &mut [u32]) -> HeadAnswer
     ensures { λ r. ⌜ HeadPromise limits (now (file .entry)) r (now (part .exit)) ⌝ }
 {
     clear(part);
-    let transport = number_line(file, START, b"transport=", 0, 1000);
+    let transport = head_line(limits, file, START, b"transport=", TRANSPORT);
     let p = transport.progress;
-    let inventory = number_line(file, p, b"inventory=", 0, 1000);
+    let inventory = head_line(limits, file, p, b"inventory=", INVENTORY);
     let p = inventory.progress;
-    let extra = number_line(file, p, b"extra=", 0, 1000);
+    let extra = head_line(limits, file, p, b"extra=", EXTRA);
     let p = extra.progress;
-    let items = number_line(file, p, b"items=", 1, limits.items as u32);
+    let items = head_line(limits, file, p, b"items=", ITEM_COUNT);
     let p = items.progress;
-    let trucks = number_line(file, p, b"trucks=", 1, limits.trucks as u32);
+    let trucks = head_line(limits, file, p, b"trucks=", TRUCK_COUNT);
     part[TRANSPORT] = transport.value;
     part[INVENTORY] = inventory.value;
     part[EXTRA] = extra.value;

@@ -1,16 +1,15 @@
 -- The number of a line that has one: what it says and that it lies in its range.
 use mathlib.Core.Path.{_≡_, refl, sym, ap, _∙_}
-use mathlib.Core.Bool.{Bool, true, false}
+use mathlib.Core.Bool.{Bool, true, false, _&&_}
 use mathlib.Core.List.{List, [], _∷_}
-use Prim.Native.Nat.{ℕ, suc, _≤_, _<_}
+use Prim.Native.Nat.{ℕ, _<_}
 use native.Mathlib.Omega.{arith}
 use lib.ListN.{length, getD}
-use Rattle.meaning.specs.Lists.{all, between}
+use Rattle.meaning.specs.Lists.{between}
 use Rattle.meaning.specs.Text.{bytes}
 use Rattle.meaning.specs.Reader.{give, line}
 use Rattle.meaning.specs.Files.{_to_, allWithin, fieldsLine, numberLine}
 use Rattle.meaning.specs.Table.{largestWord}
-use Rattle.meaning.proofs.Fields.{range-below}
 use Rattle.lines.specs.declared.Progress.{Progress}
 use Rattle.lines.specs.declared.StoredLine.{StoredLine}
 use Rattle.lines.specs.declared.StoredLine.the-variants.{Numbers, WrongForm, OutOfRange}
@@ -25,20 +24,20 @@ out-of-range (Numbers n next k) ok e g = rw e at g
 out-of-range (WrongForm n) ok e g = g
 out-of-range (OutOfRange n) ok e g = g
 
--- one word: the test of all words is that of the one range
-one-within : (low high : ℕ) (out : List ℕ) → length out ≡ 1 → all (between low high) out ≡ allWithin (low to high ∷ []) out
-unfolding all allWithin
-one-within low high [] one = refl
-one-within low high (n ∷ []) one = refl
+-- one word: its test is that of the one range
+one-within : (low high : ℕ) (out : List ℕ) → length out ≡ 1 → between low high (getD out 0 0) ≡ allWithin (low to high ∷ []) out
+unfolding allWithin
+one-within low high [] one = absurd (omega arith)
+one-within low high (n ∷ []) one = alone (between low high n)
+  where
+    alone : (b : Bool) → b ≡ (b && true)
+    alone true = refl
+    alone false = refl
 one-within low high (n ∷ m ∷ out) one = absurd (omega arith)
-
-pub one-most : (low high : ℕ) (out : List ℕ) → all (between low high) out ≡ true → getD out 0 0 ≤ high
-one-most low high [] e = omega arith
-one-most low high (n ∷ out) e = omega (arith, range-below (suc high) low high (n ∷ out) (omega arith) e .0)
 
 -- any number that is the word where the line was not refused
 pub number-says : {file : List ℕ} {p : Progress} {key out₀ : List ℕ} {r : StoredLine} {out : List ℕ} (low high : ℕ) → StoredPromise file p key 1 out₀ r out
-    → length out₀ ≡ 1 → length out ≡ 1 → high < largestWord → (k : Key) → bytes k ≡ key → (ok : Bool) → ok ≡ all (between low high) out
+    → length out₀ ≡ 1 → length out ≡ 1 → high < largestWord → (k : Key) → bytes k ≡ key → (ok : Bool) → ok ≡ between low high (getD out 0 0)
     → (n : ℕ) → (Going (judgedAs r ok) → n ≡ getD out 0 0) → reached file n (judgedAs r ok) ≡ resumed file p (numberLine k (low to high))
 unfolding numberLine
 number-says {file} {p} {r = r} {out = out} low high stored room one h k b ok test n same =

@@ -6,12 +6,15 @@ ghost use lib.ListN.{length};
 ghost use Rattle.meaning.specs.Lists.{padded};
 ghost use Rattle.meaning.specs.Text.{bytes};
 ghost use Rattle.meaning.specs.Reader.{line};
-ghost use Rattle.meaning.specs.Files.{identifiersLine, numberLine, _to_};
-ghost use Rattle.meaning.specs.Table.{countedWords, largestWord};
+ghost use Rattle.meaning.specs.Files.{identifiersLine, numberLine};
+ghost use Rattle.meaning.specs.Table.{countedWords};
+ghost use Rattle.table.specs.Filled.{Bounded};
+ghost use Rattle.ranges.specs.Ranges.{headRange};
 ghost use Rattle.lines.specs.Progress.{Key, reached, resumed, WithinFile, endedAs};
 ghost use Rattle.lines.specs.Progress.{entriesOf, judgedAs, judgedEntriesAs, StoredPromise, ReadEntries};
-use ranges::all_between;
+use meaning::Limits;
 use ranges::are_identifiers;
+use ranges::head_number_in_range;
 use table::clear;
 use text::ParsedLine;
 use text::parse_line;
@@ -151,22 +154,22 @@ pub fn counted_line(file: &[u8], p: Progress, key: &[u8], out: &mut [u32]) -> En
     r
 }
 
-// How far the file is read, and the number of the line, which is no higher than its range also after a refusal.
+// How far the file is read, and the number of the line, which is within its range also after a refusal.
 pub struct NumberAnswer {
     pub progress: Progress,
     pub value: u32,
 }
 
-// A line with one number.
-pub fn number_line(file: &[u8], p: Progress, key: &[u8], low: u32, high: u32) -> NumberAnswer
-    requires { ⌜ WithinFile (now file) p × (high < largestWord) ⌝ }
+// A line with one number of the head, told by its place there.
+pub fn head_line(limits: Limits, file: &[u8], p: Progress, key: &[u8], place: usize) -> NumberAnswer
+    requires { ⌜ Bounded limits × WithinFile (now file) p × (place < 6) ⌝ }
     ensures says { λ r. ⌜ ((k : Key) → bytes k ≡ now (key .entry)
-        → reached (now (file .entry)) (r .value) (r .progress) ≡ resumed (now (file .entry)) p (numberLine k (low to high))) ⌝ }
-    ensures within { λ r. ⌜ WithinFile (now (file .entry)) (r .progress) × (r .value ≤ high) ⌝ }
+        → reached (now (file .entry)) (r .value) (r .progress) ≡ resumed (now (file .entry)) p (numberLine k (headRange limits place))) ⌝ }
+    ensures within { λ r. ⌜ WithinFile (now (file .entry)) (r .progress) × (r .value ≤ headRange limits place .high) ⌝ }
 {
     let mut number: [u32; 1] = [0];
     let stored = stored_line(file, p, key, 1, &mut number);
-    let in_range = all_between(&number, low, high);
+    let in_range = head_number_in_range(limits, place, number[0]);
     let progress = judged(stored, in_range);
     let value = if in_range { number[0] } else { 0 };
     NumberAnswer { progress, value }

@@ -12,12 +12,12 @@ ghost use Rattle.lines.specs.Progress.{WithinFile, ReadInto, ReadEntries};
 ghost use Rattle.plan.specs.Words.{BelowLargest, spliced, StackPromise, planWords, PlanPromise};
 use lines::EntriesAnswer;
 use lines::Progress;
+use lines::START;
 use lines::at_end;
 use lines::entries;
+use lines::head_line;
 use lines::judged;
 use lines::judged_entries;
-use lines::number_line;
-use lines::start;
 use lines::stored_line;
 use meaning::Limits;
 use ranges::all_between;
@@ -26,6 +26,7 @@ use ranges::stack_in_range;
 use table::clear;
 use table::layout::LOAD_COUNT;
 use table::layout::LOAD_FIRST;
+use table::layout::STACK_COUNT;
 use table::layout::STACK_FIELDS;
 use table::layout::STACK_WORDS;
 
@@ -90,10 +91,10 @@ fn read_load(
 }
 
 // How far the stacks are read: how many of them, and how many entries their loads hold.
-pub struct StacksRead {
-    pub progress: Progress,
-    pub stacks: usize,
-    pub loaded: usize,
+struct StacksRead {
+    progress: Progress,
+    stacks: usize,
+    loaded: usize,
 }
 
 // The next stack: its line, its load, and where the load stands.
@@ -163,7 +164,7 @@ pub fn read_plan(limits: Limits, file: &[u8], counts: Counts, part: &mut [u32]) 
     requires { ⌜ Bounded limits × BelowLargest counts × (length (now part) ≡ 8 * limits .stacks + limits .loads) ⌝ }
     ensures { λ r. ⌜ PlanPromise limits counts (now (file .entry)) r (now (part .exit)) ⌝ }
 {
-    let announced = number_line(file, start(), b"stacks=", 0, limits.stacks as u32);
+    let announced = head_line(limits, file, START, b"stacks=", STACK_COUNT);
     let p = announced.progress;
     let stacks = announced.value;
     let read = read_stacks(limits, file, p, counts, stacks as usize, part);

@@ -9,8 +9,10 @@ ghost use Rattle.meaning.specs.Places.{lowest};
 ghost use Rattle.meaning.specs.Model.{IS};
 ghost use Rattle.meaning.specs.Files.{allWithin, stackRanges};
 ghost use Rattle.meaning.specs.Check.{sameLengthAndWidth, codeClashes};
+ghost use Rattle.table.specs.Filled.{Bounded};
 ghost use Rattle.ranges.specs.Clashes.{itemAt, itemsIn, clashPlace};
-ghost use Rattle.ranges.specs.Ranges.{rangesBetween, itemRangesUpTo, truckRangesUpTo, rowNumbers};
+ghost use Rattle.ranges.specs.Ranges.{rangesBetween, headRange, itemRangesUpTo, truckRangesUpTo, rowNumbers};
+use meaning::Limits;
 use table::fields::IDE;
 use table::fields::IH;
 use table::fields::IL;
@@ -26,7 +28,7 @@ pub const LAST_DAY: u32 = 399;
 // ---- any words. Most pass their test, so the loops are not left early: without branches the compiler tests several words at once
 
 // Whether each word lies in its range.
-pub fn in_ranges(words: &[u32], lows: &[u32], highs: &[u32]) -> bool
+fn in_ranges(words: &[u32], lows: &[u32], highs: &[u32]) -> bool
     requires { ⌜ (length (now words) ≤ length (now lows)) × (length (now words) ≤ length (now highs)) ⌝ }
     ensures { λ r. ⌜ r ≡ allWithin (rangesBetween (now (lows .entry)) (now (highs .entry))) (now (words .entry)) ⌝ }
 {
@@ -53,7 +55,7 @@ pub fn all_between(words: &[u32], low: u32, high: u32) -> bool
 }
 
 // Whether no word is listed twice.
-pub fn are_distinct(words: &[u32]) -> bool
+fn are_distinct(words: &[u32]) -> bool
     ensures { λ r. ⌜ r ≡ distinct (now (words .entry)) ⌝ }
 {
     let mut i = 0;
@@ -75,6 +77,23 @@ pub fn are_identifiers(words: &[u32]) -> bool
 }
 
 // ---- the lines of an instance
+
+// Whether a number of the head, told by its place there, is in range.
+pub fn head_number_in_range(limits: Limits, place: usize, number: u32) -> bool
+    requires { ⌜ Bounded limits × (place < 6) ⌝ }
+    ensures { λ r. ⌜ r ≡ between (headRange limits place .low) (headRange limits place .high) number ⌝ }
+{
+    let lows: [u32; 6] = [0, 0, 0, 1, 1, 0];
+    let highs: [u32; 6] = [
+        1000, // αT
+        1000, // αI
+        1000, // αE
+        limits.items as u32,
+        limits.trucks as u32,
+        limits.stacks as u32,
+    ];
+    (lows[place] <= number) & (number <= highs[place])
+}
 
 // One less, and 0 for 0: a nesting height is below the height.
 fn one_below(height: u32) -> u32

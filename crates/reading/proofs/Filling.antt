@@ -19,7 +19,6 @@ use Rattle.meaning.specs.Files.{_to_, numberLine, instanceLines, stackLines, pl
 use Rattle.meaning.specs.Table.{headWords, stackWords, loadEntries, words, instanceIn}
 use Rattle.meaning.specs.Meets.{FilesMeet, InstanceMeets}
 use Rattle.meaning.specs.Places.{place, lowest}
-use Rattle.meaning.specs.Verdict.{refusal}
 use Rattle.meaning.specs.Check.{Reading, refused, readable, refusedAt, afterPlan, afterClash, afterInstance, codeClashes}
 use Rattle.meaning.proofs.Outcomes.{Finds}
 use Rattle.meaning.proofs.ReadFiles.{Wholly}
@@ -34,14 +33,16 @@ use Rattle.ranges.specs.Clashes.{itemsIn, clashPlace}
 use Rattle.ranges.proofs.Clashes.{clashes-of}
 use Rattle.lines.specs.declared.Progress.{Progress}
 use Rattle.lines.specs.declared.Progress.the-variants.{Next, WrongForm, OutOfRange}
-use Rattle.lines.specs.Progress.{reached, ReadInto}
+use Rattle.lines.specs.declared.Cursor.{Cursor}
+use Rattle.lines.specs.Progress.{atStart, reached, ReadInto}
 use Rattle.lines.proofs.Follow.{onward-twice}
 use Rattle.instance.specs.Words.{instanceFile, instanceWords}
+use Rattle.plan.specs.declared.Counts.{Counts}
 use Rattle.plan.specs.declared.PlanAnswer.{PlanAnswer}
 use Rattle.plan.specs.Words.{planWords, planFile, PlanPromise}
 use Rattle.reading.specs.declared.FilesRead.{FilesRead}
-use Rattle.reading.specs.declared.FilesRead.the-variants.{Readable, InstanceForm, InstanceRange, CodeClash, PlanForm, PlanRange}
-use Rattle.reading.specs.Answered.{refusalOf, FillPromise, HoldsInstance}
+use Rattle.reading.specs.declared.FilesRead.the-variants.{Refused, Readable}
+use Rattle.reading.specs.Answered.{refusedWith, FillPromise, HoldsInstance}
 
 -- ---- the words of a model are those of its instance and those of its plan
 module _ (m : Limits) (i : Instance) where
@@ -118,20 +119,19 @@ whole-finds (outOfRange k) a n rest e = let z : _≡_ {A = ℕ} 0 1 = cc in omeg
 -- ---- what is answered
 module _ (m : Limits) (says : Reading) (t : List ℕ) where
   -- a refusal says nothing of the words
-  refused-filled : (r : FilesRead) (a : Answer) → says ≡ refused a → refusalOf r ≡ some a → FillPromise m says r t
-  refused-filled r a e k = record { refusal = rw e k; holds = λ i p f. absurd (let z : _≡_ {A = ℕ} 0 1 = cc in omega arith) }
+  refused-filled : (r : FilesRead) (a : Answer) → says ≡ refused a → r ≡ Refused a → FillPromise m says r t
+  refused-filled r a e k = record { answered = rw e k; holds = λ i p f. absurd (let z : _≡_ {A = ℕ} 0 1 = cc in omega arith) }
 
   -- readable files say all of them
   readable-filled : (i : Instance) (p : List Stack) → says ≡ readable i p → t ≡ words m i p → FillPromise m says Readable t
-  readable-filled i p e k = record { refusal = rw e; holds = λ j q f. k ∙ ap₂ (words m) (cc) (cc) }
+  readable-filled i p e k = record { answered = rw e; holds = λ j q f. k ∙ ap₂ (words m) (cc) (cc) }
 
   -- a refusal at the line behind n lines
-  line-refused : (r : FilesRead) (verdict n line : ℕ) → says ≡ refusedAt verdict (suc n) → line ≡ n + 1
-      → refusalOf r ≡ some (refusal verdict (place line 0 0)) → FillPromise m says r t
-  line-refused r verdict n line e k f = refused-filled r _ e (f ∙ ap (λ (l : ℕ). some (refusal verdict (place l 0 0))) (k ∙ add-one n))
+  line-refused : (r : FilesRead) (verdict n : ℕ) → says ≡ refusedAt verdict (suc n) → r ≡ refusedWith verdict (n + 1) 0 → FillPromise m says r t
+  line-refused r verdict n e k = refused-filled r _ e (k ∙ ap (λ (l : ℕ). refusedWith verdict l 0) (add-one n))
 
 -- ---- by how far the instance is read
-module _ (m : Limits) (file : List ℕ) (p : Progress) (part : List ℕ) (h : ReadInto file (instanceFile m) (instanceWords m) (Next 0 0 0) p part) where
+module _ (m : Limits) (file : List ℕ) (p : Progress) (part : List ℕ) (h : ReadInto file (instanceFile m) (instanceWords m) atStart p part) where
   -- what both files give
   abbrev both : List ℕ → Reading
   both plan = afterInstance m plan (wholeFile (instanceLines m) file)
@@ -140,20 +140,20 @@ module _ (m : Limits) (file : List ℕ) (p : Progress) (part : List ℕ) (h : Re
   unfolding wholeFile
   instance-said q e = sym (h .says) ∙ ap (reached file (h .value)) e
 
-  pub instance-form : (plan t : List ℕ) (n line : ℕ) → p ≡ WrongForm n → line ≡ n + 1 → FillPromise m (both plan) (InstanceForm line) t
+  pub instance-form : (plan t : List ℕ) (r : FilesRead) (n : ℕ) → p ≡ WrongForm n → r ≡ refusedWith 4 (n + 1) 0 → FillPromise m (both plan) r t
   unfolding afterInstance
-  instance-form plan t n line e k = line-refused m (both plan) t (InstanceForm line) 4 n line (ap (afterInstance m plan) (instance-said (WrongForm n) e)) k refl
+  instance-form plan t r n e k = line-refused m (both plan) t r 4 n (ap (afterInstance m plan) (instance-said (WrongForm n) e)) k
 
-  pub instance-range : (plan t : List ℕ) (n line : ℕ) → p ≡ OutOfRange n → line ≡ n + 1 → FillPromise m (both plan) (InstanceRange line) t
+  pub instance-range : (plan t : List ℕ) (r : FilesRead) (n : ℕ) → p ≡ OutOfRange n → r ≡ refusedWith 5 (n + 1) 0 → FillPromise m (both plan) r t
   unfolding afterInstance
-  instance-range plan t n line e k = line-refused m (both plan) t (InstanceRange line) 5 n line (ap (afterInstance m plan) (instance-said (OutOfRange n) e)) k refl
+  instance-range plan t r n e k = line-refused m (both plan) t r 5 n (ap (afterInstance m plan) (instance-said (OutOfRange n) e)) k
 
   -- where it is read to its end: the words are ready for the plan, and what the plan gives is what both files give
-  module _ (at n k : ℕ) (e : p ≡ Next at n k) where
+  module _ (c : Cursor) (e : p ≡ Next c) where
     in-range : InstanceMeets m (h .value)
     unfolding wholeFile
     in-range =
-        instance-off m file (h .value) (whole-finds (instanceLines m 1 file) (h .value) (suc n) (drop at file) (sym (instance-said (Next at n k) e))) .0
+        instance-off m file (h .value) (whole-finds (instanceLines m 1 file) (h .value) (suc (c .line)) (drop (c .at) file) (sym (instance-said (Next c) e))) .0
 
     module _ (zeros : List ℕ) (end : ℕ) (z : zeros ≡ replicate (named m) 0) (f : end ≡ stacksAt m) where
       placed : part ++ drop (end - 0) zeros ≡ words m (h .value) []
@@ -170,7 +170,7 @@ module _ (m : Limits) (file : List ℕ) (p : Progress) (part : List ℕ) (h : Re
       unfolding afterInstance
       instance-onward plan r t later =
           let same : alone ≡ h .value = ap (instanceIn m) placed ∙ instance-alone m (h .value) in-range in
-          rw (instance-said (Next at n k) e) (rw same at later)
+          rw (instance-said (Next c) e) (rw same at later)
 
 -- ---- by the lowest code clash
 -- of the items whose words are lent
@@ -183,34 +183,34 @@ clash-in m t clash count e is =
     is ∙ ap lowest (clashes-of (instanceIn m t) count _ (rw (lent, same) refl))
 
 module _ (m : Limits) (i : Instance) (plan : List ℕ) (o : Option Place) (t : List ℕ) where
-  pub clash-refused : (n first : ℕ) → some (place n first 0) ≡ o → FillPromise m (afterClash m i plan o) (CodeClash n first) t
+  pub clash-refused : (r : FilesRead) (n first : ℕ) → some (place n first 0) ≡ o → r ≡ refusedWith 6 n first → FillPromise m (afterClash m i plan o) r t
   unfolding afterClash
-  clash-refused n first e = refused-filled m (afterClash m i plan o) t (CodeClash n first) _ (ap (afterClash m i plan) (sym e)) refl
+  clash-refused r n first e k = refused-filled m (afterClash m i plan o) t r _ (ap (afterClash m i plan) (sym e)) k
 
   pub no-clash : (r : FilesRead) → none ≡ o → FillPromise m (afterPlan i (wholeFile (planLines m i) plan)) r t → FillPromise m (afterClash m i plan o) r t
   unfolding afterClash
   no-clash r e h = rw (← e) h
 
 -- ---- by how far the plan is read
-module _ (m : Limits) (i : Instance) (file : List ℕ) (items trucks : ℕ) (r : PlanAnswer) (part : List ℕ) (a : items ≡ length (i .items))
-    (b : trucks ≡ length (i .trucks)) (h : PlanPromise m items trucks file r part) where
+module _ (m : Limits) (i : Instance) (file : List ℕ) (counts : Counts) (r : PlanAnswer) (part : List ℕ) (a : counts .items ≡ length (i .items))
+    (b : counts .trucks ≡ length (i .trucks)) (h : PlanPromise m counts file r part) where
   abbrev onPlan : Reading
   onPlan = afterPlan i (wholeFile (planLines m i) file)
 
   plan-said : (q : Progress) → r .progress ≡ q → wholeFile (planLines m i) file ≡ reached file (h .into .value) q
   plan-said q e = sym (h .into .says ∙ rw (a, b) (plan-file m i file)) ∙ ap (reached file (h .into .value)) e
 
-  pub plan-form : (t : List ℕ) (n line : ℕ) → r .progress ≡ WrongForm n → line ≡ n + 1 → FillPromise m onPlan (PlanForm line) t
+  pub plan-form : (t : List ℕ) (answer : FilesRead) (n : ℕ) → r .progress ≡ WrongForm n → answer ≡ refusedWith 7 (n + 1) 0 → FillPromise m onPlan answer t
   unfolding afterPlan
-  plan-form t n line e k = line-refused m onPlan t (PlanForm line) 7 n line (ap (afterPlan i) (plan-said (WrongForm n) e)) k refl
+  plan-form t answer n e k = line-refused m onPlan t answer 7 n (ap (afterPlan i) (plan-said (WrongForm n) e)) k
 
-  pub plan-range : (t : List ℕ) (n line : ℕ) → r .progress ≡ OutOfRange n → line ≡ n + 1 → FillPromise m onPlan (PlanRange line) t
+  pub plan-range : (t : List ℕ) (answer : FilesRead) (n : ℕ) → r .progress ≡ OutOfRange n → answer ≡ refusedWith 8 (n + 1) 0 → FillPromise m onPlan answer t
   unfolding afterPlan
-  plan-range t n line e k = line-refused m onPlan t (PlanRange line) 8 n line (ap (afterPlan i) (plan-said (OutOfRange n) e)) k refl
+  plan-range t answer n e k = line-refused m onPlan t answer 8 n (ap (afterPlan i) (plan-said (OutOfRange n) e)) k
 
-  pub plan-readable : (t : List ℕ) (from at n k : ℕ) → InstanceMeets m i → t ≡ words m i [] → from ≡ stacksAt m → r .progress ≡ Next at n k
+  pub plan-readable : (t : List ℕ) (from : ℕ) (c : Cursor) → InstanceMeets m i → t ≡ words m i [] → from ≡ stacksAt m → r .progress ≡ Next c
       → FillPromise m onPlan Readable (set (putMid from (length t - from) t part) 5 (r .stacks))
   unfolding afterPlan
-  plan-readable t from at n k range w f e =
-      readable-filled m onPlan _ i (h .into .value) (ap (afterPlan i) (plan-said (Next at n k) e))
+  plan-readable t from c range w f e =
+      readable-filled m onPlan _ i (h .into .value) (ap (afterPlan i) (plan-said (Next c) e))
       (rw (rw e at (h .into .holds) tt, rw e at (h .stacks) tt) (plan-placed m i range t from (h .into .value) w f))

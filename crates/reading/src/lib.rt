@@ -3,18 +3,18 @@ ghost use mathlib.Core.Path.{_≡_};
 ghost use Prim.Native.Nat.{_+_, _≤_};
 ghost use lib.ListN.{length};
 ghost use Rattle.meaning.specs.Limits.{small, named};
-ghost use Rattle.meaning.specs.Places.{place, lowest};
+ghost use Rattle.meaning.specs.Places.{lowest};
 ghost use Rattle.meaning.specs.Reader.{wholeFile};
 ghost use Rattle.meaning.specs.Files.{instanceLines, planLines};
 ghost use Rattle.meaning.specs.Table.{instanceIn};
-ghost use Rattle.meaning.specs.Verdict.{refusal};
 ghost use Rattle.meaning.specs.Check.{codeClashes, afterPlan, afterClash, afterInstance, readFiles};
 ghost use Rattle.table.specs.Filled.{Bounded};
-ghost use Rattle.reading.specs.Answered.{FillPromise, HoldsInstance, readableBy, refusalAnswer, NamedPromise, ReadPromise};
+ghost use Rattle.reading.specs.Answered.{refusedWith, readableBy, FillPromise, HoldsInstance, NamedPromise, ReadPromise};
 use instance::read_instance;
 use lines::Progress;
 use meaning::Answer;
 use meaning::Limits;
+use plan::Counts;
 use plan::read_plan;
 use ranges::Clash;
 use ranges::lowest_clash;
@@ -27,28 +27,52 @@ use table::small_limits;
 use table::stacks_at;
 use table::truck_count;
 
-// ---- filling the named words
+// ---- the refusals by document 01's numbers
+const SHORT_TABLE: u32 = 1;
 
-// What two files are read as: one of the refusals 1 to 8, with the line from 1 or the two items; or readable.
+const INSTANCE_OVERLONG: u32 = 2;
+
+const PLAN_OVERLONG: u32 = 3;
+
+const INSTANCE_FORM: u32 = 4;
+
+const INSTANCE_RANGE: u32 = 5;
+
+const CODE_CLASH: u32 = 6;
+
+const PLAN_FORM: u32 = 7;
+
+const PLAN_RANGE: u32 = 8;
+
+// What two files are read as: refused with the answer, or readable, and then the rules decide.
 pub enum FilesRead {
-    ShortTable,
-    InstanceOverlong,
-    PlanOverlong,
-    InstanceForm(u32),
-    InstanceRange(u32),
-    CodeClash(u32, u32),
-    PlanForm(u32),
-    PlanRange(u32),
+    Refused(Answer),
     Readable,
 }
 
-// The number of the line behind so many lines.
-fn line_number(lines: usize) -> u32
-    requires { ⌜ lines ≤ 16777216 ⌝ }
-    ensures { λ r. ⌜ r ≡ lines + 1 ⌝ }
+// A refusal by its number and two places. It has neither cost nor trucks.
+fn refused(number: u32, first: u32, second: u32) -> FilesRead
+    ensures { λ r. ⌜ r ≡ refusedWith number first second ⌝ }
 {
-    (lines + 1) as u32
+    FilesRead::Refused(Answer {
+        number,
+        first,
+        second,
+        third: 0,
+        cost: 0,
+        trucks: 0,
+    })
 }
+
+// A refusal by its number and the line behind so many lines.
+fn refused_line(number: u32, lines: usize) -> FilesRead
+    requires { ⌜ lines ≤ 16777216 ⌝ }
+    ensures { λ r. ⌜ r ≡ refusedWith number (lines + 1) 0 ⌝ }
+{
+    refused(number, (lines + 1) as u32, 0)
+}
+
+// ---- filling the named words
 
 // The plan, once the instance is read and has no code clash.
 fn fill_plan(limits: Limits, plan: &[u8], words: &mut [u32]) -> FilesRead
@@ -59,13 +83,13 @@ fn fill_plan(limits: Limits, plan: &[u8], words: &mut [u32]) -> FilesRead
     let items = item_count(words, limits);
     let trucks = truck_count(words, limits);
     let from = stacks_at(limits);
-    let read = read_plan(limits, plan, items, trucks, &mut words[from..]);
+    let read = read_plan(limits, plan, Counts { items, trucks }, &mut words[from..]);
     words[STACK_COUNT] = read.stacks;
     let progress = read.progress;
     match progress {
-        Progress::Next(_, _, _) => FilesRead::Readable,
-        Progress::WrongForm(lines) => FilesRead::PlanForm(line_number(lines)),
-        Progress::OutOfRange(lines) => FilesRead::PlanRange(line_number(lines)),
+        Progress::Next(_) => FilesRead::Readable,
+        Progress::WrongForm(lines) => refused_line(PLAN_FORM, lines),
+        Progress::OutOfRange(lines) => refused_line(PLAN_RANGE, lines),
     }
 }
 
@@ -77,7 +101,7 @@ fn fill_after_instance(limits: Limits, plan: &[u8], words: &mut [u32]) -> FilesR
 {
     let items = item_count(words, limits);
     match lowest_clash(&words[HEAD_WORDS..], items) {
-        Clash::Between(n, first) => FilesRead::CodeClash(n, first),
+        Clash::Between(n, first) => refused(CODE_CLASH, n, first),
         Clash::Nowhere => fill_plan(limits, plan, words),
     }
 }
@@ -92,42 +116,9 @@ fn fill(limits: Limits, instance: &[u8], plan: &[u8], words: &mut [u32]) -> File
     clear(words);
     let end = stacks_at(limits);
     match read_instance(limits, instance, &mut words[0..end]) {
-        Progress::Next(_, _, _) => fill_after_instance(limits, plan, words),
-        Progress::WrongForm(lines) => FilesRead::InstanceForm(line_number(lines)),
-        Progress::OutOfRange(lines) => FilesRead::InstanceRange(line_number(lines)),
-    }
-}
-
-// ---- the answer by document 01's numbers
-
-// An answer that is no acceptance has neither cost nor trucks.
-fn without_cost(number: u32, first: u32, second: u32) -> Answer
-    ensures { λ a. ⌜ a ≡ refusal number (place first second 0) ⌝ }
-{
-    Answer {
-        number,
-        first,
-        second,
-        third: 0,
-        cost: 0,
-        trucks: 0,
-    }
-}
-
-// The refusal with its number and places. For readable files all are 0, which is no verdict: the rules decide then.
-pub fn refusal_answer(r: FilesRead) -> Answer
-    ensures { λ a. ⌜ a ≡ refusalAnswer r ⌝ }
-{
-    match r {
-        FilesRead::ShortTable => without_cost(1, 0, 0),
-        FilesRead::InstanceOverlong => without_cost(2, 0, 0),
-        FilesRead::PlanOverlong => without_cost(3, 0, 0),
-        FilesRead::InstanceForm(line) => without_cost(4, line, 0),
-        FilesRead::InstanceRange(line) => without_cost(5, line, 0),
-        FilesRead::CodeClash(n, first) => without_cost(6, n, first),
-        FilesRead::PlanForm(line) => without_cost(7, line, 0),
-        FilesRead::PlanRange(line) => without_cost(8, line, 0),
-        FilesRead::Readable => without_cost(0, 0, 0),
+        Progress::Next(_) => fill_after_instance(limits, plan, words),
+        Progress::WrongForm(lines) => refused_line(INSTANCE_FORM, lines),
+        Progress::OutOfRange(lines) => refused_line(INSTANCE_RANGE, lines),
     }
 }
 
@@ -139,7 +130,7 @@ fn is_readable(r: FilesRead) -> bool
 {
     match r {
         FilesRead::Readable => true,
-        _ => false,
+        FilesRead::Refused(_) => false,
     }
 }
 
@@ -150,11 +141,11 @@ fn read_named(limits: Limits, instance: &[u8], plan: &[u8], words: &mut [u32]) -
 {
     if limits.bytes < instance.len() {
         clear(words);
-        return FilesRead::InstanceOverlong;
+        return refused(INSTANCE_OVERLONG, 0, 0);
     }
     if limits.bytes < plan.len() {
         clear(words);
-        return FilesRead::PlanOverlong;
+        return refused(PLAN_OVERLONG, 0, 0);
     }
     let r = fill(limits, instance, plan, words);
     if !is_readable(r) {
@@ -164,14 +155,14 @@ fn read_named(limits: Limits, instance: &[u8], plan: &[u8], words: &mut [u32]) -
 }
 
 // Reads both files within the limits. Only the named words change, and none of a table that is too short.
-pub fn read_within(limits: Limits, instance: &[u8], plan: &[u8], table: &mut [u32]) -> FilesRead
+fn read_within(limits: Limits, instance: &[u8], plan: &[u8], table: &mut [u32]) -> FilesRead
     requires { ⌜ Bounded limits ⌝ }
     ensures { λ r. ⌜ ReadPromise limits (now (instance .entry)) (now (plan .entry)) (now (table .entry)) (now (table .exit)) r ⌝ }
 {
     let named = named_words(limits);
     let lent = table.len();
     if lent < named {
-        return FilesRead::ShortTable;
+        return refused(SHORT_TABLE, 0, 0);
     }
     read_named(limits, instance, plan, &mut table[0..named])
 }

@@ -1,47 +1,51 @@
--- `checking::check`: the limits of document 01, with scratch to match.
-use native.Mathlib.Omega.{arith}
+-- What reading refuses is the answer, and the rules decide on readable files.
+use Rattle.checking.proofs.Promise.{judged, declined}
 use borrow.Author.Needs.{needs}
 use Rattle.checking.proofs.check.Statement.{statement}
 use Rattle.checking.proofs.check.Tie as tie
 
-small-limits-requires : tie.Need-small-limits-requires
-small-limits-requires c κs = search needs
+read-files-requires : tie.Need-read-files-requires
+read-files-requires c κs = search needs
 
-slice-aggregate-check-within : tie.Need-slice-aggregate-check-within
-slice-aggregate-check-within c = search needs
+enum-known-refusal : tie.Need-enum-known-refusal
+enum-known-refusal c = search needs
 
-slice-aggregate-check-within-2 : tie.Need-slice-aggregate-check-within-2
-slice-aggregate-check-within-2 c = search needs
+enum-told : tie.Need-enum-told
+enum-told c = search needs
 
-slice-aggregate-check-within-3 : tie.Need-slice-aggregate-check-within-3
-slice-aggregate-check-within-3 c = search needs
-
-slice-aggregate-check-within-4 : tie.Need-slice-aggregate-check-within-4
-slice-aggregate-check-within-4 c = search needs
-
-check-within-requires : tie.Need-check-within-requires
-check-within-requires c κs =
-    let limits = c .before .before .before .before .before .small-limits .ensures in
-    rw (limits .0) (rw (limits .0) at (limits .1), omega arith, omega arith, omega arith, omega arith)
+verdict-requires : tie.Need-verdict-requires
+verdict-requires c κs =
+    let told = c .before in
+    let read = told .before .before .before .before in
+    read .read-files .ensures .filled (told .enum-told .given .1)
 
 same-length : tie.Need-same-length
 same-length c = search needs
 
 returns : tie.Need-returns
 returns c =
-    let checked = c .before .before .before .before .before .before in
-    let limits = checked .before .before .before .before .before .before in
-    rw (limits .small-limits .ensures .0) at (checked .check-within .ensures)
+    let told = c .before in
+    let read = told .before .before .before .before in
+    declined _ _ _ _ _ _ _ (read .read-files .ensures) (told .refusal .given .1)
+
+same-length-2 : tie.Need-same-length-2
+same-length-2 c = search needs
+
+returns-2 : tie.Need-returns-2
+returns-2 c =
+    let told = c .before .before in
+    let read = told .before .before .before .before in
+    judged _ _ _ _ _ _ _ (read .read-files .ensures) (told .enum-told .given .1) (c .verdict .ensures)
 
 pub check-spec : {M : Type 1} → statement M
 check-spec =
     tie.close
     (tie.spec
-    small-limits-requires
-    slice-aggregate-check-within
-    slice-aggregate-check-within-2
-    slice-aggregate-check-within-3
-    slice-aggregate-check-within-4
-    check-within-requires
+    read-files-requires
+    enum-known-refusal
+    enum-told
+    verdict-requires
     same-length
-    returns)
+    returns
+    same-length-2
+    returns-2)

@@ -13,14 +13,14 @@ use Rattle.instance.proofs.read_head.Tie as tie
 abbrev start : tie.After-clear → tie.Start
 start c = c .before .before .before .before
 
-abbrev cleared : tie.After-number-line3 → tie.After-clear
+abbrev cleared : tie.After-head-line3 → tie.After-clear
 cleared c = c .before .before .before .before .before .before .before .before
 
-abbrev third : tie.After-number-line4 → tie.After-number-line3
-third c = c .before .before .before
+abbrev third : tie.After-head-line4 → tie.After-head-line3
+third c = c .before .before
 
-abbrev fourth : tie.After-number-line5 → tie.After-number-line4
-fourth c = c .before .before .before
+abbrev fourth : tie.After-head-line5 → tie.After-head-line4
+fourth c = c .before .before
 
 -- the words are still 16
 long : (c : tie.After-clear) → length (c .clear .last .0) ≡ 16
@@ -29,41 +29,35 @@ long c = c .clear .kept .0 ∙ start c .pre .1
 clear-requires : tie.Need-clear-requires
 clear-requires c κs = search needs
 
-slice-aggregate-number-line : tie.Need-slice-aggregate-number-line
-slice-aggregate-number-line c = search needs
+slice-aggregate-head-line : tie.Need-slice-aggregate-head-line
+slice-aggregate-head-line c = search needs
 
-number-line-requires : tie.Need-number-line-requires
-number-line-requires c κs = search needs
+head-line-requires : tie.Need-head-line-requires
+head-line-requires c κs = search needs
 
-slice-aggregate-number-line-2 : tie.Need-slice-aggregate-number-line-2
-slice-aggregate-number-line-2 c = search needs
+slice-aggregate-head-line-2 : tie.Need-slice-aggregate-head-line-2
+slice-aggregate-head-line-2 c = search needs
 
-number-line-requires-2 : tie.Need-number-line-requires-2
-number-line-requires-2 c κs = search needs
+head-line-requires-2 : tie.Need-head-line-requires-2
+head-line-requires-2 c κs = search needs
 
-slice-aggregate-number-line-3 : tie.Need-slice-aggregate-number-line-3
-slice-aggregate-number-line-3 c = search needs
+slice-aggregate-head-line-3 : tie.Need-slice-aggregate-head-line-3
+slice-aggregate-head-line-3 c = search needs
 
-number-line-requires-3 : tie.Need-number-line-requires-3
-number-line-requires-3 c κs = search needs
+head-line-requires-3 : tie.Need-head-line-requires-3
+head-line-requires-3 c κs = search needs
 
-slice-aggregate-number-line-4 : tie.Need-slice-aggregate-number-line-4
-slice-aggregate-number-line-4 c = search needs
+slice-aggregate-head-line-4 : tie.Need-slice-aggregate-head-line-4
+slice-aggregate-head-line-4 c = search needs
 
-cast-number-line : tie.Need-cast-number-line
-cast-number-line c = omega (arith, start (cleared (c .before .before)) .pre .0 .words)
+head-line-requires-4 : tie.Need-head-line-requires-4
+head-line-requires-4 c κs = search needs
 
-number-line-requires-4 : tie.Need-number-line-requires-4
-number-line-requires-4 c κs = (c .before .before .number-line3 .ensures .1 .0, omega (arith, start (cleared (c .before .before)) .pre .0 .words))
+slice-aggregate-head-line-5 : tie.Need-slice-aggregate-head-line-5
+slice-aggregate-head-line-5 c = search needs
 
-slice-aggregate-number-line-5 : tie.Need-slice-aggregate-number-line-5
-slice-aggregate-number-line-5 c = search needs
-
-cast-number-line-2 : tie.Need-cast-number-line-2
-cast-number-line-2 c = omega (arith, start (cleared (third (c .before .before))) .pre .0 .words)
-
-number-line-requires-5 : tie.Need-number-line-requires-5
-number-line-requires-5 c κs = (c .before .before .number-line4 .ensures .1 .0, omega (arith, start (cleared (third (c .before .before))) .pre .0 .words))
+head-line-requires-5 : tie.Need-head-line-requires-5
+head-line-requires-5 c κs = (start (cleared (third (c .before))) .pre .0, c .before .head-line4 .ensures .1 .0, omega arith)
 
 slice-write-part : tie.Need-slice-write-part
 slice-write-part c = omega (arith, long (cleared (third (fourth c))))
@@ -97,29 +91,29 @@ returns c =
     let secondLine = thirdLine .before .before in
     let firstLine = secondLine .before .before in
     let zeros = cleared thirdLine in
-    let transport = firstLine .number-line .result in
-    let inventory = secondLine .number-line2 .result in
-    let extra = thirdLine .number-line3 .result in
-    let items = fourthLine .number-line4 .result in
-    let trucks = fifthLine .number-line5 .result in
+    let transport = firstLine .head-line .result in
+    let inventory = secondLine .head-line2 .result in
+    let extra = thirdLine .head-line3 .result in
+    let items = fourthLine .head-line4 .result in
+    let trucks = fifthLine .head-line5 .result in
     record {
       into =
           record {
             value = headNumbers (transport .value) (inventory .value) (extra .value) (items .value) (trucks .value);
             says =
                 head-says (start zeros .args .limits) (start zeros .args .file .now) atStart transport inventory extra items trucks
-                (firstLine .number-line .ensures .0 "transport=" refl)
-                (secondLine .number-line2 .ensures .0 "inventory=" refl)
-                (thirdLine .number-line3 .ensures .0 "extra=" refl)
-                (fourthLine .number-line4 .ensures .0 "items=" refl)
-                (fifthLine .number-line5 .ensures .0 "trucks=" refl);
+                (firstLine .head-line .ensures .0 "transport=" refl)
+                (secondLine .head-line2 .ensures .0 "inventory=" refl)
+                (thirdLine .head-line3 .ensures .0 "extra=" refl)
+                (fourthLine .head-line4 .ensures .0 "items=" refl)
+                (fifthLine .head-line5 .ensures .0 "trucks=" refl);
             holds = λ g. head-words (zeros .clear .last .0) _ _ _ _ _ (zeros .clear .ensures ∙ ap (λ (k : ℕ). replicate k 0) (start zeros .pre .1));
-            within = fifthLine .number-line5 .ensures .1 .0;
+            within = fifthLine .head-line5 .ensures .1 .0;
           };
       items = λ g. refl;
       trucks = λ g. refl;
-      itemsWithin = fourthLine .number-line4 .ensures .1 .1;
-      trucksWithin = fifthLine .number-line5 .ensures .1 .1;
+      itemsWithin = fourthLine .head-line4 .ensures .1 .1;
+      trucksWithin = fifthLine .head-line5 .ensures .1 .1;
     }
 
 pub read-head-spec : {M : Type 1} → statement M
@@ -127,18 +121,16 @@ read-head-spec =
     tie.close
     (tie.spec
     clear-requires
-    slice-aggregate-number-line
-    number-line-requires
-    slice-aggregate-number-line-2
-    number-line-requires-2
-    slice-aggregate-number-line-3
-    number-line-requires-3
-    slice-aggregate-number-line-4
-    cast-number-line
-    number-line-requires-4
-    slice-aggregate-number-line-5
-    cast-number-line-2
-    number-line-requires-5
+    slice-aggregate-head-line
+    head-line-requires
+    slice-aggregate-head-line-2
+    head-line-requires-2
+    slice-aggregate-head-line-3
+    head-line-requires-3
+    slice-aggregate-head-line-4
+    head-line-requires-4
+    slice-aggregate-head-line-5
+    head-line-requires-5
     slice-write-part
     slice-write-part-2
     slice-write-part-3

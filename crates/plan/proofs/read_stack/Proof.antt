@@ -3,7 +3,7 @@ use mathlib.Core.Path.{_≡_, _∙_}
 use mathlib.Core.List.{List}
 use Prim.Native.Nat.{ℕ, _-_, _*_}
 use native.Mathlib.Omega.{arith}
-use borrow.Rule.Slice.PartMut.{putMid, same-len-mid}
+use borrow.Rule.Slice.PartMut.{midOf, putMid, same-len-mid}
 use lib.ListN.{length, length-set}
 use borrow.Author.Needs.{needs}
 use Rattle.plan.proofs.StackLines.{stack-read}
@@ -34,9 +34,15 @@ module _ (c : tie.After-slice-known3) where
   abbrev loads : List ℕ
   loads = load .read-load .last .1 .1 .1 .1 .0
 
-  -- with them the part has its length again
+  -- both have kept their length, so that the part has its own again
+  part-kept : length part ≡ length (start .args .part .now)
+  part-kept = row .read-stack-row .kept .1 .1 .1 .1 .0
+
+  loads-kept : length loads ≡ length (midOf from (length part - from) part)
+  loads-kept = load .read-load .kept .1 .1 .1 .1 .0
+
   same-part : length (putMid from (length part - from) part loads) ≡ length (start .args .part .now)
-  same-part = same-len-mid from (length part - from) part loads (load .read-load .kept .1 .1 .1 .1 .0) ∙ row .read-stack-row .kept .1 .1 .1 .1 .0
+  same-part = same-len-mid from (length part - from) part loads loads-kept ∙ part-kept
 
 mul-row : tie.Need-mul-row
 mul-row c = search needs
@@ -101,7 +107,7 @@ returns c =
     let read = row c .read-stack-row in
     let last = load c .read-load in
     stack-read (a .limits) (a .counts) (a .file .now) (a .part .now) (part c) (loads c) (a .q) (read .result) (last .result)
-    (omega arith) (omega arith) (start c .pre .5) (read .kept .1 .1 .1 .1 .0) (last .kept .1 .1 .1 .1 .0) (read .ensures)
+    (omega arith) (omega arith) (start c .pre .5) (part-kept c) (loads-kept c) (read .ensures)
     (last .ensures .0) (last .ensures .1)
 
 pub read-stack-spec : {M : Type 1} → statement M

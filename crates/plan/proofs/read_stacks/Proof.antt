@@ -36,8 +36,7 @@ loop-again c =
     let one = c .before .before in
     let test = one .before .before in
     let loop = test .before .before in
-    so-far-next (loop .loop .inv) (one .read-stack .result) (one .read-stack .last .1 .1 .1 .1 .0) (test .if1 .taken)
-    (one .read-stack .kept .1 .1 .1 .1 .0) (one .read-stack .ensures)
+    so-far-next (loop .loop .inv) _ _ (test .if1 .taken) (one .read-stack .kept .1 .1 .1 .1 .0) (one .read-stack .ensures)
 
 same-length : tie.Need-same-length Inv-loop μ-loop
 same-length c = search needs

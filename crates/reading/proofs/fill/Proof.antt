@@ -1,9 +1,19 @@
 -- The answer and the words follow from how far the instance is read.
 use native.Mathlib.Omega.{arith}
-use borrow.Author.Needs.{needs}
 use Rattle.reading.proofs.Filling.{instance-form, instance-range, instance-ready, instance-onward}
+use borrow.Author.Needs.{needs}
 use Rattle.reading.proofs.fill.Statement.{statement}
 use Rattle.reading.proofs.fill.Tie as tie
+
+-- ---- the way back from the instance to the calls before it
+abbrev end : tie.After-read-instance → tie.After-stacks-at
+end c = c .before .before
+
+abbrev cleared : tie.After-read-instance → tie.After-clear
+cleared c = end c .before .before .before
+
+abbrev start : tie.After-read-instance → tie.Start
+start c = cleared c .before .before .before .before .before
 
 clear-requires : tie.Need-clear-requires
 clear-requires c κs = search needs
@@ -28,31 +38,28 @@ enum-told c = search needs
 
 fill-after-instance-requires : tie.Need-fill-after-instance-requires
 fill-after-instance-requires c κs =
-    let read = c .before .before .before .before .before in
-    let end = read .before .before in
-    let cleared = end .before .before .before in
-    let start = cleared .before .before .before .before .before in (
-      instance-ready _ _ _ _ (read .read-instance .ensures) _ _ _ (c .before .enum-told .given .1) _ _
-          (rw (start .pre .1) at (cleared .clear .ensures)) (end .stacks-at .ensures) (start .pre .0),
+    let read = c .before .before .before .before .before in (
+      instance-ready _ _ _ _ (read .read-instance .ensures) _ (c .before .enum-told .given .1) _ _
+          (rw (start read .pre .1) at (cleared read .clear .ensures)) (end read .stacks-at .ensures) (start read .pre .0),
       search needs,
-      start .pre .3,
+      start read .pre .3,
     )
 
 enum-known-lines : tie.Need-enum-known-lines
 enum-known-lines c = search needs
 
-line-number-requires : tie.Need-line-number-requires
-line-number-requires c κs =
+refused-line-requires : tie.Need-refused-line-requires
+refused-line-requires c κs =
     let read = c .before .before .before .before .before in
-    omega (arith, rw (c .before .lines .given .1) at (read .read-instance .ensures .sound))
+    omega (arith, rw (c .before .lines .given .1) at (read .read-instance .ensures .within))
 
 enum-known-lines-2 : tie.Need-enum-known-lines-2
 enum-known-lines-2 c = search needs
 
-line-number-requires-2 : tie.Need-line-number-requires-2
-line-number-requires-2 c κs =
+refused-line-requires-2 : tie.Need-refused-line-requires-2
+refused-line-requires-2 c κs =
     let read = c .before .before .before .before .before in
-    omega (arith, rw (c .before .lines2 .given .1) at (read .read-instance .ensures .sound))
+    omega (arith, rw (c .before .lines2 .given .1) at (read .read-instance .ensures .within))
 
 same-length : tie.Need-same-length
 same-length c = search needs
@@ -61,27 +68,26 @@ returns : tie.Need-returns
 returns c =
     let arm = c .before .before .before .before in
     let read = arm .before .before .before .before in
-    let end = read .before .before in
-    let cleared = end .before .before .before in
-    let start = cleared .before .before .before .before .before in
-    instance-onward _ _ _ _ (read .read-instance .ensures) _ _ _ (arm .enum-told .given .1) _ _
-    (rw (start .pre .1) at (cleared .clear .ensures)) (end .stacks-at .ensures) _ _ _ (c .before .before .fill-after-instance .ensures)
+    instance-onward _ _ _ _ (read .read-instance .ensures) _ (arm .enum-told .given .1) _ _
+    (rw (start read .pre .1) at (cleared read .clear .ensures)) (end read .stacks-at .ensures) _ _ _ (c .before .before .fill-after-instance .ensures)
 
 same-length-2 : tie.Need-same-length-2
 same-length-2 c = search needs
 
 returns-2 : tie.Need-returns-2
 returns-2 c =
-    let read = c .before .before .before .before .before .before in
-    instance-form _ _ _ _ (read .read-instance .ensures) _ _ _ _ (c .before .before .lines .given .1) (c .line-number .ensures)
+    let arm = c .before .before in
+    let read = arm .before .before .before .before in
+    instance-form _ _ _ _ (read .read-instance .ensures) _ _ _ _ (arm .lines .given .1) (c .refused-line .ensures)
 
 same-length-3 : tie.Need-same-length-3
 same-length-3 c = search needs
 
 returns-3 : tie.Need-returns-3
 returns-3 c =
-    let read = c .before .before .before .before .before .before in
-    instance-range _ _ _ _ (read .read-instance .ensures) _ _ _ _ (c .before .before .lines2 .given .1) (c .line-number2 .ensures)
+    let arm = c .before .before in
+    let read = arm .before .before .before .before in
+    instance-range _ _ _ _ (read .read-instance .ensures) _ _ _ _ (arm .lines2 .given .1) (c .refused-line2 .ensures)
 
 pub fill-spec : {M : Type 1} → statement M
 fill-spec =
@@ -96,9 +102,9 @@ fill-spec =
     enum-told
     fill-after-instance-requires
     enum-known-lines
-    line-number-requires
+    refused-line-requires
     enum-known-lines-2
-    line-number-requires-2
+    refused-line-requires-2
     same-length
     returns
     same-length-2
