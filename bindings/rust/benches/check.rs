@@ -5,7 +5,7 @@
 mod before;
 mod measuring;
 
-use measuring::{means, Means, Times, LOADS, REPEATS, ROUNDS};
+use measuring::{means, Means, Times, LOADS, REPEATS, ROUNDS, TURNS};
 use reference::generator::{self, Made};
 
 /// At full size the check may take at most this part of the reference's time, and elsewhere all of it.
@@ -96,8 +96,8 @@ fn print_growth(spread: &str, one_truck: bool) {
 }
 
 fn main() {
-    let rounds = REPEATS * ROUNDS;
-    println!("Mean over {LOADS} loads, each the best of {rounds} rounds. The table is not cleared before a call.\n");
+    let turns = REPEATS * ROUNDS * TURNS;
+    println!("Mean over {LOADS} loads, each the best of {turns} turns. The table is not cleared before a call.\n");
     print_kinds();
     print_growth("spread over trucks", false);
     print_growth("one used truck", true);

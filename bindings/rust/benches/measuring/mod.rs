@@ -10,10 +10,12 @@ use std::time::{Duration, Instant};
 pub const LOADS: u64 = 6;
 /// A load is measured so many times, which shows how far the measurements lie apart.
 pub const REPEATS: usize = 5;
-/// A repeat is the best of so many rounds. In each round all checkers run, one after the other.
-pub const ROUNDS: usize = 60;
-/// In a round each checker is called as often as takes the reference about so long.
-const ROUND: Duration = Duration::from_millis(1);
+/// A repeat has so many rounds. In a round all checkers run, one after the other.
+pub const ROUNDS: usize = 20;
+/// In a round each has so many turns on end; its time is that of its best turn.
+pub const TURNS: usize = 16;
+/// In a turn it is called as often as takes the reference about so long.
+const TURN: Duration = Duration::from_micros(200);
 
 /// Takes instance, plan and table, and answers the number.
 pub type Checker = fn(&[u8], &[u8], &mut [u32]) -> u32;
@@ -89,12 +91,12 @@ fn measured(load: &Made) -> [Times; REPEATS] {
     let mut table = vec![0; TABLE_WORDS];
     let (instance, plan) = (black_box(&load.instance[..]), black_box(&load.plan[..]));
     let mut seconds = |checker: Checker, calls: u32| {
-        // This call is not timed, since it finds in the caches what another checker has left there.
+        // This first call is not timed: it finds the caches as another checker has left them.
         assert_eq!(checker(instance, plan, &mut table), load.answer.number, "{}", load.kind);
-        seconds_per_call(calls, || checker(instance, plan, &mut table))
+        let mut turn = || seconds_per_call(calls, || checker(instance, plan, &mut table));
+        (0..TURNS).map(|_| turn()).fold(f64::INFINITY, f64::min)
     };
-    let once = (0..9).map(|_| seconds(REFERENCE, 1)).fold(f64::INFINITY, f64::min);
-    let calls = (ROUND.as_secs_f64() / once).ceil() as u32;
+    let calls = (TURN.as_secs_f64() / seconds(REFERENCE, 1)).ceil() as u32;
     let mut round = |index: usize| {
         let mut times = Times::all(f64::INFINITY);
         times.reference = seconds(REFERENCE, calls);
