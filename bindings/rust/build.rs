@@ -23,14 +23,14 @@ fn main() {
 }
 
 /// Copies both libraries to a folder, which is returned. Two with the same names cannot be linked, so the check of the earlier one gets
-/// another name, and no other name of it is seen. Where the linker happens to put a function can cost 2 in 100 of the time, so the functions
-/// of both start at multiples of 2 MB.
+/// another name, and no other name of it is seen. Where the linker happens to put a function can cost 2 in 100 of the time, so in both
+/// each starts a page.
 fn beside(library: &Path, before: &Path) -> PathBuf {
     println!("cargo:rerun-if-changed={}", before.display());
     let folder = PathBuf::from(env::var("OUT_DIR").unwrap());
     let copy = |from: &Path, name: &str, options: &[&str]| {
         let mut objcopy = Command::new("objcopy");
-        objcopy.arg("--set-section-alignment=.text.*=2097152").args(options);
+        objcopy.arg("--set-section-alignment=.text.*=4096").args(options);
         let run = objcopy.args([from, &folder.join(name)]).status();
         assert!(run.unwrap().success(), "objcopy copies {}", from.display());
     };

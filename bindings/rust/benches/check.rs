@@ -1,61 +1,113 @@
-//! Time of the exported check beside the reference checker, on the same files in one run; and beside the check of an earlier library, if
-//! KAQLLUWE_BEFORE named its file when this was built. All are lent one table, which is used again and again and is not cleared before a
-//! call; what a call clears or allocates for itself is a part of its time.
+//! Time of the exported check beside the reference checker, on the same files in one run. Both are given a table that is used again and
+//! again and is not cleared before a call; what a call clears or allocates for itself is a part of its time.
 
 mod before;
-mod measuring;
 
-use measuring::{means, Means, Times, LOADS, REPEATS, ROUNDS, TURNS};
+use kaqlluwe::TABLE_WORDS;
 use reference::generator::{self, Made};
+use std::hint::black_box;
+use std::time::{Duration, Instant};
 
+/// So many loads of each kind are measured, and the mean of their times is told.
+const LOADS: u64 = 6;
+/// The time of a load is the best of so many rounds. In each round both checkers run, one after the other.
+const ROUNDS: usize = 60;
+/// Each checker runs for about so long in a round, on the same load again and again.
+const ROUND: Duration = Duration::from_millis(4);
 /// At full size the check may take at most this part of the reference's time, and elsewhere all of it.
 const FULL_SIZE_BAR: f64 = 0.5;
 const BAR: f64 = 1.0;
-/// Not slower than the earlier library by more than 3 in 100.
-const BEFORE_BAR: f64 = 1.03;
+
+/// Seconds for one check of each.
+#[derive(Clone, Copy)]
+struct Times {
+    check: f64,
+    reference: f64,
+}
+
+impl Times {
+    fn ratio(self) -> f64 {
+        self.check / self.reference
+    }
+}
+
+fn seconds_per_call(calls: u32, mut call: impl FnMut() -> u32) -> f64 {
+    let start = Instant::now();
+    for _ in 0..calls {
+        black_box(call());
+    }
+    start.elapsed().as_secs_f64() / f64::from(calls)
+}
+
+/// The best times for one load.
+fn measured(load: &Made) -> Times {
+    let mut table = vec![0; TABLE_WORDS];
+    let mut other_table = vec![0; TABLE_WORDS];
+    let (instance, plan) = (black_box(&load.instance[..]), black_box(&load.plan[..]));
+    let mut check = || kaqlluwe::check(instance, plan, &mut table).number;
+    let mut reference = || reference::check(instance, plan, &mut other_table).number;
+    assert_eq!((check(), reference()), (load.answer.number, load.answer.number));
+
+    let calls = |once: f64| (ROUND.as_secs_f64() / once).ceil() as u32;
+    let check_calls = calls(seconds_per_call(20, &mut check));
+    let reference_calls = calls(seconds_per_call(20, &mut reference));
+    let mut best = Times {
+        check: f64::INFINITY,
+        reference: f64::INFINITY,
+    };
+    for _ in 0..ROUNDS {
+        best.check = best.check.min(seconds_per_call(check_calls, &mut check));
+        best.reference = best.reference.min(seconds_per_call(reference_calls, &mut reference));
+    }
+    best
+}
+
+/// The mean over the loads of one kind.
+fn mean(loads: &[Made]) -> Times {
+    let times: Vec<Times> = loads.iter().map(measured).collect();
+    let mean_of = |part: fn(&Times) -> f64| times.iter().map(part).sum::<f64>() / times.len() as f64;
+    Times {
+        check: mean_of(|times| times.check),
+        reference: mean_of(|times| times.reference),
+    }
+}
+
+/// The first draws of a kind. The answer of each must have this number.
+fn drawn(number: u32, draw: impl Fn(u64) -> Made) -> Vec<Made> {
+    let loads: Vec<Made> = (0..LOADS).map(draw).collect();
+    for load in &loads {
+        assert_eq!(load.answer.number, number, "{}", load.kind);
+    }
+    loads
+}
 
 fn held(ratio: f64, bar: f64) -> String {
     let word = if ratio <= bar { "met" } else { "missed" };
     format!("{bar:.2}, {word}")
 }
 
-/// The head of a table: the times and their ratio, the table's own columns, and those of the earlier library.
-fn print_head(first: &str, own: &[&str]) {
-    let more: &[&str] = match before::CHECK {
-        Some(_) => &["before, µs", "new/before", "in each repeat", "bar"],
-        None => &[],
-    };
-    let columns = [&[first, "check, µs", "reference, µs", "ratio"], own, more].concat();
+/// The name of the rows, the times and their ratio, the table's own columns, and those of an earlier library.
+fn print_head(name: &str, own: &[&str]) {
+    let columns = [&[name, "check, µs", "reference, µs", "ratio"], own, before::columns()].concat();
     println!("| {} |", columns.join(" | "));
     println!("|{}", "---|".repeat(columns.len()));
 }
 
-fn print_row(first: &str, means: &Means, own: &[String]) {
-    let best = means.best;
-    let mut cells = vec![
-        first.to_string(),
-        format!("{:.1}", best.check * 1e6),
-        format!("{:.1}", best.reference * 1e6),
-        format!("{:.2}", best.to_reference()),
+fn print_row(name: &str, times: Times, own: &[String], before: &[String]) {
+    let measured = [
+        name.to_string(),
+        format!("{:.1}", times.check * 1e6),
+        format!("{:.1}", times.reference * 1e6),
+        format!("{:.2}", times.ratio()),
     ];
-    cells.extend_from_slice(own);
-    if before::CHECK.is_some() {
-        let mut ratios = means.repeats.map(Times::to_before);
-        ratios.sort_by(f64::total_cmp);
-        cells.extend([
-            format!("{:.1}", best.before * 1e6),
-            format!("{:.3}", best.to_before()),
-            format!("{:.3} to {:.3}", ratios[0], ratios[REPEATS - 1]),
-            held(best.to_before(), BEFORE_BAR),
-        ]);
-    }
-    println!("| {} |", cells.join(" | "));
+    println!("| {} |", [&measured, own, before].concat().join(" | "));
 }
 
-/// A kind of load, with the number of its answer and the bar that it is held to.
+/// A kind of load with the number of its answer and the bar that it is held to.
 fn print_kind(kind: &str, number: u32, bar: f64, draw: impl Fn(u64) -> Made) {
-    let means = means(number, draw);
-    print_row(kind, &means, &[held(means.best.to_reference(), bar)]);
+    let loads = drawn(number, draw);
+    let times = mean(&loads);
+    print_row(kind, times, &[held(times.ratio(), bar)], &before::cells(&loads));
 }
 
 fn print_kinds() {
@@ -87,17 +139,17 @@ fn print_growth(spread: &str, one_truck: bool) {
     print_head(&format!("Stacks, {spread}"), &["check grows", "reference grows"]);
     let mut fewest: Option<Times> = None;
     for stacks in [32, 64, 128, 256] {
-        let means = means(0, |draw| generator::sized(stacks, one_truck, draw));
-        let first = *fewest.get_or_insert(means.best);
-        let growth = means.best.joined(first, |seconds, first| seconds / first);
-        let own = [growth.check, growth.reference].map(|times| format!("{times:.1}"));
-        print_row(&stacks.to_string(), &means, &own);
+        let loads = drawn(0, |draw| generator::sized(stacks, one_truck, draw));
+        let times = mean(&loads);
+        let first = *fewest.get_or_insert(times);
+        let growth = [times.check / first.check, times.reference / first.reference];
+        let own = growth.map(|grown| format!("{grown:.1}"));
+        print_row(&stacks.to_string(), times, &own, &before::cells(&loads));
     }
 }
 
 fn main() {
-    let turns = REPEATS * ROUNDS * TURNS;
-    println!("Mean over {LOADS} loads, each the best of {turns} turns. The table is not cleared before a call.\n");
+    println!("Mean over {LOADS} loads, each the best of {ROUNDS} rounds. Tables are not cleared before a call.\n");
     print_kinds();
     print_growth("spread over trucks", false);
     print_growth("one used truck", true);
