@@ -2,6 +2,7 @@
 
 mod checking;
 mod damage;
+mod late;
 mod limits;
 mod mutate;
 mod packed;
@@ -71,4 +72,11 @@ pub fn sized(stacks: u32, one_truck: bool, draw: u64) -> Made {
 /// The load of that size and draw on many used trucks, but with an item number out of range in the last line of its plan.
 pub fn unreadable_at_the_end(stacks: u32, draw: u64) -> Made {
     sized::unreadable_at_the_end(stacks, draw)
+}
+
+/// A load of that size that is refused with that number at the last place of its rule, which is broken at no other place. 22: the height of
+/// the stack with the highest number. 23, 25: the two stacks with the highest numbers, all stacks on one used truck. 28: the last departure
+/// of the last used truck. Each draw is a small edit of another accepted load.
+pub fn refused_at_the_end(stacks: u32, number: u32, draw: u64) -> Made {
+    late::load(stacks, number, draw)
 }

@@ -1,10 +1,10 @@
-//! Loads of a given size: their counts, their used trucks, and the last line of one that cannot be read.
+//! Loads of a given size: their counts, their used trucks, the last line of one that cannot be read, and the last place of a broken rule.
 
 mod common;
 
 use common::refused;
 use reference::bad_line;
-use reference::generator::{sized, unreadable_at_the_end, Made};
+use reference::generator::{refused_at_the_end, sized, unreadable_at_the_end, Made};
 use reference::model::{Instance, Plan};
 use reference::reader::{read_instance, read_plan};
 use std::collections::BTreeSet;
@@ -89,5 +89,34 @@ fn the_last_line_alone_cannot_be_read() {
         assert!(made.instance == readable.instance, "{stacks}");
         let before = made.plan.len() - line.len() - 1;
         assert!(readable.plan.starts_with(&made.plan[..before]), "{stacks}");
+    }
+}
+
+#[test]
+fn the_last_place_alone_is_broken() {
+    for (number, draw) in [22, 23, 25, 28]
+        .into_iter()
+        .flat_map(|number| [(number, 0), (number, 1)])
+    {
+        let made = refused_at_the_end(256, number, draw);
+        let (instance, plan) = read(&made);
+        let mut stacks: Vec<u32> = plan.stacks.iter().map(|stack| stack.number).collect();
+        stacks.sort_unstable();
+        let used: BTreeSet<(u32, u32)> = plan.stacks.iter().map(|stack| (stack.truck, stack.copy)).collect();
+        let (truck, copy) = *used.last().unwrap();
+        let departures = instance.trucks[truck as usize - 1].suppliers.len() as u32;
+        let answer = match number {
+            22 => refused(22, stacks[255], 3, 0),
+            23 => refused(23, stacks[254], stacks[255], 0),
+            25 => refused(25, stacks[255], stacks[254], 0),
+            _ => refused(28, truck, copy, departures),
+        };
+        assert_eq!(made.answer, answer, "{}", made.kind);
+        assert_eq!(
+            (stacks.len(), used.len() == 1),
+            (256, matches!(number, 23 | 25)),
+            "{}",
+            made.kind
+        );
     }
 }

@@ -1,6 +1,8 @@
 //! Time of the exported check beside the reference checker, on the same files in one run. Both are given a table that is used again and
 //! again and is not cleared before a call; what a call clears or allocates for itself is a part of its time.
 
+mod before;
+
 use kaqlluwe::TABLE_WORDS;
 use reference::generator::{self, Made};
 use std::hint::black_box;
@@ -26,10 +28,6 @@ struct Times {
 impl Times {
     fn ratio(self) -> f64 {
         self.check / self.reference
-    }
-
-    fn in_microseconds(self) -> String {
-        format!("{:.1} | {:.1}", self.check * 1e6, self.reference * 1e6)
     }
 }
 
@@ -65,8 +63,8 @@ fn measured(load: &Made) -> Times {
 }
 
 /// The mean over the loads of one kind.
-fn mean(draw: impl Fn(u64) -> Made) -> Times {
-    let times: Vec<Times> = (0..LOADS).map(|index| measured(&draw(index))).collect();
+fn mean(loads: &[Made]) -> Times {
+    let times: Vec<Times> = loads.iter().map(measured).collect();
     let mean_of = |part: fn(&Times) -> f64| times.iter().map(part).sum::<f64>() / times.len() as f64;
     Times {
         check: mean_of(|times| times.check),
@@ -74,56 +72,79 @@ fn mean(draw: impl Fn(u64) -> Made) -> Times {
     }
 }
 
-/// The kinds of load, each with the bar that it is held to.
-fn print_kinds() {
-    let kinds = [
-        ("small: 8 stacks", mean(|draw| generator::sized(8, false, draw)), BAR),
-        (
-            "full size, spread over trucks",
-            mean(|draw| generator::sized(256, false, draw)),
-            FULL_SIZE_BAR,
-        ),
-        (
-            "full size, one used truck",
-            mean(|draw| generator::sized(256, true, draw)),
-            FULL_SIZE_BAR,
-        ),
-        (
-            "full size, unreadable at the last line",
-            mean(|draw| generator::unreadable_at_the_end(256, draw)),
-            FULL_SIZE_BAR,
-        ),
+/// The first draws of a kind. The answer of each must have this number.
+fn drawn(number: u32, draw: impl Fn(u64) -> Made) -> Vec<Made> {
+    let loads: Vec<Made> = (0..LOADS).map(draw).collect();
+    for load in &loads {
+        assert_eq!(load.answer.number, number, "{}", load.kind);
+    }
+    loads
+}
+
+fn held(ratio: f64, bar: f64) -> String {
+    let word = if ratio <= bar { "met" } else { "missed" };
+    format!("{bar:.2}, {word}")
+}
+
+/// The name of the rows, the times and their ratio, the table's own columns, and those of an earlier library.
+fn print_head(name: &str, own: &[&str]) {
+    let columns = [&[name, "check, µs", "reference, µs", "ratio"], own, before::columns()].concat();
+    println!("| {} |", columns.join(" | "));
+    println!("|{}", "---|".repeat(columns.len()));
+}
+
+fn print_row(name: &str, times: Times, own: &[String], before: &[String]) {
+    let measured = [
+        name.to_string(),
+        format!("{:.1}", times.check * 1e6),
+        format!("{:.1}", times.reference * 1e6),
+        format!("{:.2}", times.ratio()),
     ];
-    println!("| Load | check, µs | reference, µs | ratio | bar |");
-    println!("|---|---|---|---|---|");
-    for (kind, times, bar) in kinds {
-        let ratio = times.ratio();
-        let met = if ratio <= bar { "met" } else { "missed" };
-        println!(
-            "| {kind} | {} | {ratio:.2} | {bar:.2}, {met} |",
-            times.in_microseconds()
-        );
+    println!("| {} |", [&measured, own, before].concat().join(" | "));
+}
+
+/// A kind of load with the number of its answer and the bar that it is held to.
+fn print_kind(kind: &str, number: u32, bar: f64, draw: impl Fn(u64) -> Made) {
+    let loads = drawn(number, draw);
+    let times = mean(&loads);
+    print_row(kind, times, &[held(times.ratio(), bar)], &before::cells(&loads));
+}
+
+fn print_kinds() {
+    print_head("Load", &["bar"]);
+    print_kind("small: 8 stacks", 0, BAR, |draw| generator::sized(8, false, draw));
+    for (kind, one_truck) in [("spread over trucks", false), ("one used truck", true)] {
+        print_kind(&format!("full size, {kind}"), 0, FULL_SIZE_BAR, |draw| {
+            generator::sized(256, one_truck, draw)
+        });
+    }
+    print_kind("full size, unreadable at the last line", 8, FULL_SIZE_BAR, |draw| {
+        generator::unreadable_at_the_end(256, draw)
+    });
+    for (kind, number) in [
+        ("last stack too high", 22),
+        ("one used truck, last pair overlaps", 23),
+        ("one used truck, last pair out of order", 25),
+        ("rear axle overloaded at the last departure", 28),
+    ] {
+        print_kind(&format!("full size, {kind}"), number, FULL_SIZE_BAR, |draw| {
+            generator::refused_at_the_end(256, number, draw)
+        });
     }
 }
 
 /// How time grows with the stacks: each row beside the one of the fewest.
 fn print_growth(spread: &str, one_truck: bool) {
-    println!("\n| Stacks, {spread} | check, µs | reference, µs | ratio | check grows | reference grows |");
-    println!("|---|---|---|---|---|---|");
+    println!();
+    print_head(&format!("Stacks, {spread}"), &["check grows", "reference grows"]);
     let mut fewest: Option<Times> = None;
     for stacks in [32, 64, 128, 256] {
-        let times = mean(|draw| generator::sized(stacks, one_truck, draw));
+        let loads = drawn(0, |draw| generator::sized(stacks, one_truck, draw));
+        let times = mean(&loads);
         let first = *fewest.get_or_insert(times);
-        let growth = format!(
-            "{:.1} | {:.1}",
-            times.check / first.check,
-            times.reference / first.reference
-        );
-        println!(
-            "| {stacks} | {} | {:.2} | {growth} |",
-            times.in_microseconds(),
-            times.ratio()
-        );
+        let growth = [times.check / first.check, times.reference / first.reference];
+        let own = growth.map(|grown| format!("{grown:.1}"));
+        print_row(&stacks.to_string(), times, &own, &before::cells(&loads));
     }
 }
 
