@@ -28,13 +28,15 @@ ranksBefore a b =
     ltb (a .«supplier_order») (b .«supplier_order») || (eqb (a .supplier) (b .supplier) && ltb (a .«dock_order») (b .«dock_order»))
     || (eqb (a .supplier) (b .supplier) && eqb (a .dock) (b .dock) && leb (a .highest) (b .lowest) && not (leb (b .highest) (a .lowest)))
 
--- the same of the stacks at two places of the rows
+-- 23 on the stacks at two places of the rows
 abbrev pub disjointAt : List ℕ → ℕ → ℕ → Bool
 disjointAt rows a b = disjointFootprints (footprintAt rows a) (footprintAt rows b)
 
+-- 24: b ends where a begins, in contact with it
 abbrev pub inContactAt : List ℕ → ℕ → ℕ → Bool
 inContactAt rows a b = footprintsInContact (footprintAt rows a) (footprintAt rows b)
 
+-- 25, where x stands in word 4
 abbrev pub inOrderAt : List ℕ → ℕ → ℕ → Bool
 inOrderAt rows a b = not (ranksBefore (rankAt rows a) (rankAt rows b)) || leb (rowWord rows a 4) (rowWord rows b 4)
 
