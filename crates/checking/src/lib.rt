@@ -11,24 +11,16 @@ use reading::FilesRead;
 use reading::read_files;
 use table::small_limits;
 
-// The verdict on the table that readable files fill. The arrays are scratch: a word for each item; for each stack a key, a place and the
-// 16 words of its row.
+// The verdict on the table that readable files fill. The arrays are scratch: for each stack a key and the 16 words of its row; a word for
+// each item or stack.
 fn verdict(t: &[u32]) -> Answer
     requires { ⌜ Filled small (now t) ⌝ }
     ensures { λ r. ⌜ r ≡ verdictOn (instanceIn small (now (t .entry))) (stacksIn small (now (t .entry))) ⌝ }
 {
-    let mut times = [0u32; 256];
     let mut keys = [0u64; 256];
     let mut order = [0u32; 256];
     let mut rows = [0u32; 4096];
-    judge(
-        t,
-        small_limits(),
-        &mut times,
-        &mut keys,
-        &mut order,
-        &mut rows,
-    )
+    judge(t, small_limits(), &mut keys, &mut order, &mut rows)
 }
 
 // Checks a plan against its instance, by the limits of document 01. Any bytes and any table may be given. The named words of the table are

@@ -5,7 +5,7 @@ use Rattle.checking.proofs.verdict.Statement.{statement}
 use Rattle.checking.proofs.verdict.Tie as tie
 
 abbrev limits : tie.After-rows → tie.After-small-limits
-limits c = c .before .before .before .before
+limits c = c .before .before .before
 
 small-limits-requires : tie.Need-small-limits-requires
 small-limits-requires c κs = search needs
@@ -19,9 +19,6 @@ slice-aggregate-judge-2 c = search needs
 slice-aggregate-judge-3 : tie.Need-slice-aggregate-judge-3
 slice-aggregate-judge-3 c = search needs
 
-slice-aggregate-judge-4 : tie.Need-slice-aggregate-judge-4
-slice-aggregate-judge-4 c = search needs
-
 judge-requires : tie.Need-judge-requires
 judge-requires c κs =
     let filled = limits c .before .before .pre in
@@ -31,7 +28,7 @@ judge-requires c κs =
 
 returns : tie.Need-returns
 returns c =
-    let judged = c .before .before .before .before in
+    let judged = c .before .before .before in
     rw (limits (judged .before) .small-limits .ensures .0) at (judged .judge .ensures)
 
 pub verdict-spec : {M : Type 1} → statement M
@@ -42,6 +39,5 @@ verdict-spec =
     slice-aggregate-judge
     slice-aggregate-judge-2
     slice-aggregate-judge-3
-    slice-aggregate-judge-4
     judge-requires
     returns)
