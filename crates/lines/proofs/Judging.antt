@@ -16,25 +16,25 @@ use Rattle.lines.specs.declared.Progress.the-variants.{Next, WrongForm, 
 use Rattle.lines.specs.declared.StoredLine.{StoredLine}
 use Rattle.lines.specs.declared.StoredLine.the-variants.{Numbers, WrongForm as StoredWrongForm, OutOfRange as StoredOutOfRange}
 use Rattle.lines.specs.declared.EntriesAnswer.{EntriesAnswer}
-use Rattle.lines.specs.Progress.{reached, resumed, Going, entriesOf, HasNumbers, judgedAs, judgedEntriesAs, StoredPromise}
+use Rattle.lines.specs.Progress.{Going, entriesOf, HasNumbers, judgedAs, judgedEntriesAs, JudgedBy, StoredPromise}
 use Rattle.lines.specs.Progress.{unlessRefused, ReadInto, ReadEntries}
 use Rattle.lines.proofs.Follow.{read-meets}
 
 -- ---- the cases of a stored line
 -- the test decides nothing where the line was refused
-pub same-judged : (r : StoredLine) (s t : Bool) → (HasNumbers r → s ≡ t) → judgedAs r s ≡ judgedAs r t
+same-judged : (r : StoredLine) (s t : Bool) → (HasNumbers r → s ≡ t) → judgedAs r s ≡ judgedAs r t
 same-judged (Numbers n next k) s t h = ap (judgedAs (Numbers n next k)) (h tt)
 same-judged (StoredWrongForm n) s t h = refl
 same-judged (StoredOutOfRange n) s t h = refl
 
 -- a line that is passed has its numbers stored
-pub has-numbers : (r : StoredLine) (ok : Bool) → Going (judgedAs r ok) → HasNumbers r
+has-numbers : (r : StoredLine) (ok : Bool) → Going (judgedAs r ok) → HasNumbers r
 has-numbers (Numbers n next k) ok g = tt
 has-numbers (StoredWrongForm n) ok g = g
 has-numbers (StoredOutOfRange n) ok g = g
 
 -- the number of entries that the answer gives
-pub count-judged : (r : StoredLine) (ok : Bool) → cond ok (entriesOf r) 0 ≡ unlessRefused (judgedAs r ok) (entriesOf r)
+count-judged : (r : StoredLine) (ok : Bool) → cond ok (entriesOf r) 0 ≡ unlessRefused (judgedAs r ok) (entriesOf r)
 count-judged (Numbers n next k) true = refl
 count-judged (Numbers n next k) false = refl
 count-judged (StoredWrongForm n) true = refl
@@ -46,7 +46,7 @@ count-judged (StoredOutOfRange n) false = refl
 -- `test` says that the form's range test was made on the entries, `stand` how these stand in `out`
 module _ {file : List ℕ} {p : Progress} {key : List ℕ} {least : ℕ} {out₀ : List ℕ} {r : StoredLine} {out : List ℕ}
     (stored : StoredPromise file p key least out₀ r out) (f : Form) (words : List ℕ → List ℕ)
-    (says : reached file (take (entriesOf r) out) (judgedAs r (f .fits (take (entriesOf r) out))) ≡ resumed file p (line f))
+    (says : JudgedBy f file p r out)
     (ok : Bool) (test : HasNumbers r → ok ≡ f .fits (take (entriesOf r) out))
     (stand : HasNumbers r → out ≡ words (take (entriesOf r) out)) where
   pub judged-read : ReadInto file (line f) words p (judgedAs r ok) out
@@ -72,8 +72,7 @@ judged-room stored false = omega arith
 
 -- a line that fills its words is judged on all of them, and what was stored is what is read
 pub full-read : {file : List ℕ} {p : Progress} {key : List ℕ} {least : ℕ} {out₀ : List ℕ} {r : StoredLine} {out : List ℕ}
-    → StoredPromise file p key least out₀ r out → length out ≤ least → (f : Form)
-    → reached file (take (entriesOf r) out) (judgedAs r (f .fits (take (entriesOf r) out))) ≡ resumed file p (line f)
+    → StoredPromise file p key least out₀ r out → length out ≤ least → (f : Form) → JudgedBy f file p r out
     → (ok : Bool) → ok ≡ f .fits out → ReadInto file (line f) (λ ns. ns) p (judgedAs r ok) out
 full-read {r = r} {out = out} stored full f says ok test =
     let all : HasNumbers r → out ≡ take (entriesOf r) out = λ has. sym (take-all (entriesOf r) out (omega (arith, stored .enough has))) in

@@ -82,11 +82,14 @@ judgedEntriesAs r ok = record { progress = judgedAs r ok; count = cond ok (entri
 abbrev pub RefusesLargest : Form → Type 0
 RefusesLargest f = (ns : List ℕ) → length ns ≤ f .most → f .fits ns ≡ true → Every (λ n. n < largestWord) ns
 
--- what is promised of the line after p: judged by the range test on its words, it is what the reader of its form finds, whatever the
--- form. Its numbers stand in front, `least` of them at least, no more than there is room for, and the words behind them are as they were
+-- judged by a form's range test on its words, the line after p is what the form's reader finds
+abbrev pub JudgedBy : Form → List ℕ → Progress → StoredLine → List ℕ → Type 0
+JudgedBy f file p r out = reached file (take (entriesOf r) out) (judgedAs r (f .fits (take (entriesOf r) out))) ≡ resumed file p (line f)
+
+-- what is promised of the line after p, whatever its form is. Its numbers stand in front, `least` of them at least, no more than there is
+-- room for, and the words behind them are as they were
 pub record StoredPromise (file : List ℕ) (p : Progress) (key : List ℕ) (least : ℕ) (out₀ : List ℕ) (r : StoredLine) (out : List ℕ) : Type 0 where
-  pub says : (f : Form) → bytes (f .key) ≡ key → f .least ≡ least → f .most ≡ length out₀ → RefusesLargest f
-      → reached file (take (entriesOf r) out) (judgedAs r (f .fits (take (entriesOf r) out))) ≡ resumed file p (line f)
+  pub says : (f : Form) → bytes (f .key) ≡ key → f .least ≡ least → f .most ≡ length out₀ → RefusesLargest f → JudgedBy f file p r out
   pub within : (ok : Bool) → WithinFile file (judgedAs r ok)
   pub room : entriesOf r ≤ length out₀
   pub enough : HasNumbers r → least ≤ entriesOf r
