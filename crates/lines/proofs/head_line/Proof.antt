@@ -1,10 +1,11 @@
 -- A line of one number, judged by its one range. Where it is out of range, the answer is 0.
-use mathlib.Core.Path.{refl, sym, _∙_}
+use mathlib.Core.Path.{refl}
+use Prim.Native.Nat.{_<_}
 use native.Mathlib.Omega.{arith}
-use Rattle.meaning.proofs.Tests.{between-reads}
+use Rattle.meaning.specs.Table.{largestWord}
 use Rattle.ranges.specs.Ranges.{headRange}
 use Rattle.ranges.proofs.Ends.{head-below}
-use Rattle.lines.proofs.Number.{out-of-range, number-says}
+use Rattle.lines.proofs.Number.{passed-word, refused-word, number-read}
 use borrow.Author.Needs.{needs}
 use Rattle.lines.proofs.head_line.Statement.{statement}
 use Rattle.lines.proofs.head_line.Tie as tie
@@ -27,39 +28,28 @@ judged-requires c κs = search needs
 array-read-value : tie.Need-array-read-value
 array-read-value c = search needs
 
+-- ---- the way back from the answer
+abbrev line : tie.After-judged → tie.After-stored-line
+line c = c .before .before .before
+
+abbrev start : tie.After-judged → tie.Start
+start c = line c .before .before .before .before
+
+-- its number is below the largest word
+below : (c : tie.After-judged) → headRange (start c .args .limits) (start c .args .place) .high < largestWord
+below c = head-below (start c .args .limits) (start c .pre .0) (start c .args .place) (start c .pre .2)
+
 returns : tie.Need-returns
 returns c =
     let judge = c .before in
-    let test = judge .before in
-    let line = test .before .before in
-    let start = line .before .before .before .before in
-    let range = headRange (start .args .limits) (start .args .place) in
-    let below = head-below (start .args .limits) (start .pre .0) (start .args .place) (start .pre .2) in
-    let stored = line .stored-line .ensures in
-    let ok = test .head-number-in-range .result in
-    let tested = test .head-number-in-range .ensures in
-    rw (judge .judged .ensures) (
-      λ k b. number-says (range .low) (range .high) stored refl (omega arith) below k b ok tested _ (λ g. refl),
-      (stored .within ok, between-reads _ _ _ .0 (sym tested ∙ c .if1 .taken) .1),
-    )
+    number-read _ (below judge) (line judge .stored-line .ensures) refl (omega arith) (judge .before .head-number-in-range .ensures) (judge .judged .ensures)
+    (passed-word _ (c .if1 .taken))
 
 returns-2 : tie.Need-returns-2
 returns-2 c =
     let judge = c .before in
-    let test = judge .before in
-    let line = test .before .before in
-    let start = line .before .before .before .before in
-    let range = headRange (start .args .limits) (start .args .place) in
-    let below = head-below (start .args .limits) (start .pre .0) (start .args .place) (start .pre .2) in
-    let stored = line .stored-line .ensures in
-    let ok = test .head-number-in-range .result in
-    let tested = test .head-number-in-range .ensures in
-    rw (judge .judged .ensures) (
-      λ k b.
-          number-says (range .low) (range .high) stored refl (omega arith) below k b ok tested 0 (λ g.
-          absurd (out-of-range (line .stored-line .result) ok (c .if1 .left) g)),
-      (stored .within ok, omega arith),
-    )
+    number-read _ (below judge) (line judge .stored-line .ensures) refl (omega arith) (judge .before .head-number-in-range .ensures) (judge .judged .ensures)
+    (refused-word _ (c .if1 .left))
 
 pub head-line-spec : {M : Type 1} → statement M
 head-line-spec =
