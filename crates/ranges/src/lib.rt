@@ -76,7 +76,7 @@ pub fn are_identifiers(words: &[u32]) -> bool
     all_between(words, 1, 65535) & are_distinct(words)
 }
 
-// ---- the lines of an instance
+// ---- the head, items and trucks
 
 // Whether a number of the head, told by its place there, is in range.
 pub fn head_number_in_range(limits: Limits, place: usize, number: u32) -> bool
@@ -165,7 +165,7 @@ pub fn truck_in_range(fields: &[u32], last: u32) -> bool
     in_ranges(fields, &lows, &highs)
 }
 
-// ---- the lines of a plan
+// ---- stacks
 
 // Whether the fields of a stack's line are in range for so many trucks.
 pub fn stack_in_range(fields: &[u32], trucks: u32) -> bool
