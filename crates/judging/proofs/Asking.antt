@@ -11,7 +11,7 @@ use Rattle.rules.specs.declared.PairRule.the-variants.{SecondPair, Overlap, Ord
 use Rattle.rules.specs.declared.TruckRule.the-variants.{Unbraced, Overload, Middle, Rear}
 use Rattle.rules.specs.LoadingRules.{onStack, ruleAt}
 use Rattle.judging.specs.declared.Asked.{Asked}
-use Rattle.judging.specs.Judging.{isAsked, withRule, AskedBelow}
+use Rattle.judging.specs.Judging.{isAsked, withRule, AskedBelow, everything}
 
 -- b asks what a asks
 record Asks (a b : Asked) : Type 0 where
@@ -48,6 +48,20 @@ asks-rule a (OfTrucks Unbraced) = inr refl
 asks-rule a (OfTrucks Overload) = inr refl
 asks-rule a (OfTrucks Middle) = inr refl
 asks-rule a (OfTrucks Rear) = inr refl
+
+-- where everything is asked, so is every rule
+asks-all : (rule : Rule) → (onStack rule ≡ true) ⊎ (isAsked everything rule ≡ true)
+asks-all (OfStacks rule) = inl refl
+asks-all (OfPairs SecondPair) = inr refl
+asks-all (OfPairs Overlap) = inr refl
+asks-all (OfPairs Order) = inr refl
+asks-all (OfTrucks Unbraced) = inr refl
+asks-all (OfTrucks Overload) = inr refl
+asks-all (OfTrucks Middle) = inr refl
+asks-all (OfTrucks Rear) = inr refl
+
+pub asked-all : (rank : ℕ) → AskedBelow rank everything
+asked-all rank = record { each = λ k below. asks-all (ruleAt k) }
 
 -- ---- the loop over the ranks
 pub asked-none : (a : Asked) → AskedBelow 0 a

@@ -38,7 +38,7 @@ use Rattle.judging.specs.declared.Findings.{Findings}
 use Rattle.placement.specs.Placed.{PlacedStacks}
 use Rattle.axles.specs.Weights.{LowestPlaces}
 use Rattle.judging.specs.declared.Asked.{Asked}
-use Rattle.judging.specs.Judging.{isAsked, Tells, joined, noFindings, TellsAsked, CountsTrucks}
+use Rattle.judging.specs.Judging.{isAsked, Beforehand, Tells, joined, noFindings, TellsAsked, CountsTrucks}
 use Rattle.judging.proofs.Cost.{Counted, counted-start, counted-more, counted-end}
 use Rattle.judging.proofs.Apart.{Apart, pairs-apart, truck-rule-apart}
 
@@ -153,24 +153,34 @@ module _ (i : Instance) (p : List Stack) where
   tells-all (OfPairs rule) f h = yes-all (pairs-by-truck rule i) p _ h
   tells-all (OfTrucks rule) f h = found-all (trucks-by-truck rule i) p h
 
+-- what was needed beforehand of all was needed of each
+beforehand-joined : (rule : Rule) (a b : Findings) → Beforehand rule (joined a b) → Beforehand rule a × Beforehand rule b
+beforehand-joined (OfStacks rule) a b h = (tt, tt)
+beforehand-joined (OfPairs SecondPair) a b h = (tt, tt)
+beforehand-joined (OfPairs Overlap) a b h = (tt, tt)
+beforehand-joined (OfPairs Order) a b h = and-reads (a .placement .apart) (b .placement .apart) .0 h
+beforehand-joined (OfTrucks rule) a b h = (tt, tt)
+
 -- ---- the loop over the used trucks
 -- the answers so far are right of the stacks that are visited from `end` on
 pub record Told (asked : Asked) (i : Instance) (p : List Stack) (end : ℕ) (f : Findings) (count cost : ℕ) : Type 0 where
-  pub each : (rule : Rule) → isAsked asked rule ≡ true → Tells rule i (drop end (visited p)) f
+  pub each : (rule : Rule) → isAsked asked rule ≡ true → Beforehand rule f → Tells rule i (drop end (visited p)) f
   pub counted : Counted i p end count cost
 
 module _ {asked : Asked} {i : Instance} {p : List Stack} where
   pub told-start : {end : ℕ} → end ≡ length p → Told asked i p end noFindings 0 0
-  told-start e = record { each = λ rule a. tells-start i p rule e; counted = counted-start e }
+  told-start e = record { each = λ rule a w. tells-start i p rule e; counted = counted-start e }
 
   -- one used truck more
   pub told-more : {start end count cost count′ cost′ : ℕ} (a b : Findings) → Told asked i p end b count cost → OneTruck p start end × Parted p start
-      → ((rule : Rule) → isAsked asked rule ≡ true → Tells rule i (block p start end) a)
+      → ((rule : Rule) → isAsked asked rule ≡ true → Beforehand rule a → Tells rule i (block p start end) a)
       → (count′ ≡ count + 1) × (cost′ ≡ transportCost i (usedBy (visitAt p start)) + cost) × (cost′ ≤ cost + 2000000000)
       → Told asked i p start (joined a b) count′ cost′
   told-more a b h one here paid =
       record {
-        each = λ rule q. tells-more i p rule a b (one .0) (h .counted .parted) (here rule q) (h .each rule q);
+        each = λ rule q w.
+            let both = beforehand-joined rule a b w in
+            tells-more i p rule a b (one .0) (h .counted .parted) (here rule q (both .0)) (h .each rule q (both .1));
         counted = counted-more (h .counted) (one .0) (one .1) paid;
       }
 
@@ -178,21 +188,21 @@ module _ {asked : Asked} {i : Instance} {p : List Stack} where
       → TellsAsked asked i p f × CountsTrucks i p count cost
   told-end {end} {f = f} h none few =
       let e : end ≡ 0 = omega arith in
-      (record { each = λ rule a. tells-all i p rule f (rw e at (h .each rule a)) }, counted-end (h .counted) none few)
+      (record { each = λ rule a w. tells-all i p rule f (rw e at (h .each rule a w)) }, counted-end (h .counted) none few)
 
 -- ---- the answers of one used truck, rule by rule
 pub truck-told : {asked : Asked} (i : Instance) (p : List Stack) (f : Findings)
     → (asked .«single_pair» ≡ true → (f .«single_pair» ≡ true) ↔ (pairPlaces singlePair i p ≡ []))
     → (asked .placement ≡ true → PlacedStacks i p (f .placement)) → (asked .weights ≡ true → LowestPlaces i p (f .weights))
-    → (rule : Rule) → isAsked asked rule ≡ true → Tells rule i p f
-truck-told i p f s q w (OfStacks rule) e = tt
-truck-told i p f s q w (OfPairs SecondPair) e = s e
-truck-told i p f s q w (OfPairs Overlap) e = q e .apart
-truck-told i p f s q w (OfPairs Order) e = q e .ordered
-truck-told i p f s q w (OfTrucks Unbraced) e = q e .unbraced
-truck-told i p f s q w (OfTrucks Overload) e = w e .overload
-truck-told i p f s q w (OfTrucks Middle) e = w e .middle
-truck-told i p f s q w (OfTrucks Rear) e = w e .rear
+    → (rule : Rule) → isAsked asked rule ≡ true → Beforehand rule f → Tells rule i p f
+truck-told i p f s q w (OfStacks rule) e n = tt
+truck-told i p f s q w (OfPairs SecondPair) e n = s e
+truck-told i p f s q w (OfPairs Overlap) e n = q e .apart
+truck-told i p f s q w (OfPairs Order) e n = q e .ordered n
+truck-told i p f s q w (OfTrucks Unbraced) e n = q e .unbraced
+truck-told i p f s q w (OfTrucks Overload) e n = w e .overload
+truck-told i p f s q w (OfTrucks Middle) e n = w e .middle
+truck-told i p f s q w (OfTrucks Rear) e n = w e .rear
 
 -- ---- what the walk leans on
 -- the used truck before `end`, and the walk so far

@@ -1,7 +1,7 @@
 -- The verdict by the loading rules: from what the stacks and the used trucks tell to the first broken rule.
 use mathlib.Core.Path.{_≡_, refl, sym, ap, _∙_}
 use mathlib.Core.Logic.{_↔_, _⊎_, inl, inr, ⊎-elim}
-use mathlib.Core.Bool.{Bool, true, false, not}
+use mathlib.Core.Bool.{Bool, true, false, not, _&&_, _||_}
 use mathlib.Core.List.{List, []}
 use Prim.Native.Nat.{ℕ, suc, _+_, _≤_, _<_}
 use native.Mathlib.Decide.{decLe}
@@ -14,7 +14,9 @@ use Rattle.meaning.specs.declared.Answer.{Answer}
 use Rattle.meaning.specs.Rules.{loadingRules}
 use Rattle.meaning.specs.Verdict.{refusal, firstBroken}
 use Rattle.meaning.specs.Model.{Instance, Stack}
-use Rattle.meaning.proofs.Tests.{true≢false, fails}
+use Rattle.meaning.specs.Lists.{all, any, upFrom}
+use Rattle.meaning.proofs.Tests.{true≢false, fails, and-reads}
+use Rattle.meaning.proofs.Lists.{all-reads, any-reads, in-upFrom}
 use Rattle.search.specs.Lowest.{lowestIn}
 use Rattle.search.specs.declared.Found.{Found}
 use Rattle.search.specs.declared.Found.the-variants.{At, Nothing}
@@ -22,8 +24,10 @@ use Rattle.search.proofs.Lowest.{none-listed}
 use Rattle.rules.specs.declared.Rule.{Rule}
 use Rattle.rules.specs.declared.Rule.the-variants.{OfStacks, OfPairs, OfTrucks}
 use Rattle.rules.specs.declared.PairRule.{PairRule}
+use Rattle.rules.specs.declared.PairRule.the-variants.{SecondPair, Overlap, Order}
 use Rattle.rules.specs.declared.StackRule.{StackRule}
 use Rattle.rules.specs.declared.TruckRule.{TruckRule}
+use Rattle.rules.specs.declared.TruckRule.the-variants.{Unbraced, Overload, Middle, Rear}
 use Rattle.rules.specs.LoadingRules.{rulePlaces, onStack, verdicts, ruleCount, ruleAt, KeptBelow}
 use Rattle.rules.proofs.Ranks.{broken-at-rank}
 use Rattle.stackrules.specs.declared.Breach.{Breach}
@@ -32,7 +36,7 @@ use Rattle.judging.specs.declared.Asked.{Asked}
 use Rattle.judging.specs.declared.Findings.{Findings}
 use Rattle.judging.specs.declared.UsedTrucks.{UsedTrucks}
 use Rattle.judging.specs.declared.Survey.{Survey}
-use Rattle.judging.specs.Judging.{isAsked, AskedBelow, truckFound, nothing, keptBy, Tells, TellsAsked, FirstRank, CountsTrucks, SurveyOf, placeIn}
+use Rattle.judging.specs.Judging.{isAsked, AskedBelow, pairKept, truckFound, allKept, Beforehand, nothing, keptBy, Tells, TellsAsked, FirstRank, CountsTrucks, SurveyOf, placeIn}
 
 -- ---- what a search found
 found-none : (f : Found) → nothing f ≡ true → Nothing ≡ f
@@ -69,6 +73,76 @@ told-kept asked i p f (OfStacks rule) a h e = absurd (true≢false (sym a))
 told-kept asked i p f (OfPairs rule) a h e = h .0 e
 told-kept asked i p f (OfTrucks rule) a h e = none-listed _ (found-none (truckFound rule f) e ∙ h)
 
+-- ---- 23 comes before 25, so the loading order is told where it is asked for
+isOverlap : Rule → Bool
+isOverlap (OfStacks rule) = false
+isOverlap (OfPairs SecondPair) = false
+isOverlap (OfPairs Overlap) = true
+isOverlap (OfPairs Order) = false
+isOverlap (OfTrucks rule) = false
+
+isOrder : Rule → Bool
+isOrder (OfStacks rule) = false
+isOrder (OfPairs SecondPair) = false
+isOrder (OfPairs Overlap) = false
+isOrder (OfPairs Order) = true
+isOrder (OfTrucks rule) = false
+
+overlap-first : all (λ k. not (isOrder (ruleAt k)) || any (λ j. isOverlap (ruleAt j)) (upFrom 0 k)) (upFrom 0 ruleCount) ≡ true
+unfolding ruleAt all any upFrom
+overlap-first = refl
+
+module _ (f : Findings) where
+  overlap-kept : (rule : Rule) → isOverlap rule ≡ true → keptBy rule f ≡ true → pairKept Overlap f ≡ true
+  overlap-kept (OfStacks rule) o e = absurd (true≢false (sym o))
+  overlap-kept (OfPairs SecondPair) o e = absurd (true≢false (sym o))
+  overlap-kept (OfPairs Overlap) o e = e
+  overlap-kept (OfPairs Order) o e = absurd (true≢false (sym o))
+  overlap-kept (OfTrucks rule) o e = absurd (true≢false (sym o))
+
+  beforehand : (k : ℕ) → k < ruleCount → ((j : ℕ) → j < k → keptBy (ruleAt j) f ≡ true) → Beforehand (ruleAt k) f
+  beforehand k inside kept = by-kind (ruleAt k) test
+    where
+      test : (not (isOrder (ruleAt k)) || any (λ j. isOverlap (ruleAt j)) (upFrom 0 k)) ≡ true
+      test = all-reads _ (upFrom 0 ruleCount) .0 overlap-first k (in-upFrom 0 ruleCount k .1 (omega arith))
+
+      earlier : any (λ j. isOverlap (ruleAt j)) (upFrom 0 k) ≡ true → pairKept Overlap f ≡ true
+      earlier e =
+          let w = any-reads (λ j. isOverlap (ruleAt j)) (upFrom 0 k) .0 e in
+          overlap-kept (ruleAt (w .0)) (w .2) (kept (w .0) (omega (arith, in-upFrom 0 k (w .0) .0 (w .1))))
+
+      by-kind : (rule : Rule) → (not (isOrder rule) || any (λ j. isOverlap (ruleAt j)) (upFrom 0 k)) ≡ true → Beforehand rule f
+      by-kind (OfStacks rule) e = tt
+      by-kind (OfPairs SecondPair) e = tt
+      by-kind (OfPairs Overlap) e = tt
+      by-kind (OfPairs Order) e = earlier e
+      by-kind (OfTrucks rule) e = tt
+
+-- ---- the used trucks keep all
+pub all-told : (f : Findings) → allKept f ≡ true → (rule : Rule) → keptBy rule f ≡ true
+all-told f e =
+    let rear = and-reads _ (nothing (truckFound Rear f)) .0 e in
+    let middle = and-reads _ (nothing (truckFound Middle f)) .0 (rear .0) in
+    let overload = and-reads _ (nothing (truckFound Overload f)) .0 (middle .0) in
+    let unbraced = and-reads _ (nothing (truckFound Unbraced f)) .0 (overload .0) in
+    let order = and-reads _ (pairKept Order f) .0 (unbraced .0) in
+    let pairs = and-reads (pairKept SecondPair f) (pairKept Overlap f) .0 (order .0) in
+    each (pairs .0) (pairs .1) (order .1) (unbraced .1) (overload .1) (middle .1) (rear .1)
+  where
+    K : Rule → Type 0
+    K rule = keptBy rule f ≡ true
+
+    each : K (OfPairs SecondPair) → K (OfPairs Overlap) → K (OfPairs Order) → K (OfTrucks Unbraced) → K (OfTrucks Overload) → K (OfTrucks Middle)
+        → K (OfTrucks Rear) → (rule : Rule) → K rule
+    each s v o u w m r (OfStacks rule) = refl
+    each s v o u w m r (OfPairs SecondPair) = s
+    each s v o u w m r (OfPairs Overlap) = v
+    each s v o u w m r (OfPairs Order) = o
+    each s v o u w m r (OfTrucks Unbraced) = u
+    each s v o u w m r (OfTrucks Overload) = w
+    each s v o u w m r (OfTrucks Middle) = m
+    each s v o u w m r (OfTrucks Rear) = r
+
 -- ---- the loop over the ranks
 -- the rules below `rank` are told to be kept
 pub record KeptTo (f : Findings) (upto rank : ℕ) : Type 0 where
@@ -93,6 +167,9 @@ module _ {f : Findings} {upto : ℕ} where
     pub kept-whole : upto ≤ rank → FirstRank f upto rank
     kept-whole past = record { within = h .within; kept = h .kept; broken = λ more. absurd (omega arith) }
 
+  pub all-kept-to : allKept f ≡ true → FirstRank f upto upto
+  all-kept-to e = record { within = omega arith; kept = λ k below. all-told f e (ruleAt k); broken = λ more. absurd (omega arith) }
+
 -- ---- the first broken rule
 module _ {i : Instance} {p : List Stack} {b : Breach} {asked : Asked} {f : Findings} {rank : ℕ} (first : FirstOnStacks i p b)
     (covers : AskedBelow (b .rank) asked) (tells : TellsAsked asked i p f) (r : FirstRank f (b .rank) rank) where
@@ -102,7 +179,9 @@ module _ {i : Instance} {p : List Stack} {b : Breach} {asked : Asked} {f : Findi
     where
       go : (k : ℕ) → k < rank → (onStack (ruleAt k) ≡ true) ⊎ (isAsked asked (ruleAt k) ≡ true) → rulePlaces (ruleAt k) i p ≡ []
       go k below (inl s) = first .kept k (omega (arith, r .within)) s
-      go k below (inr a) = told-kept asked i p f (ruleAt k) a (tells .each (ruleAt k) a) (r .kept k below)
+      go k below (inr a) =
+          let early = beforehand f k (omega (arith, r .within, first .upto)) (λ j less. r .kept j (omega arith)) in
+          told-kept asked i p f (ruleAt k) a (tells .each (ruleAt k) a early) (r .kept k below)
 
   -- where a rule on single stacks is broken at that rank, it is the first of them
   on-stacks : rank < ruleCount → onStack (ruleAt rank) ≡ true → At (b .place) ≡ lowestIn (rulePlaces (ruleAt rank) i p)
@@ -122,7 +201,7 @@ module _ {i : Instance} {p : List Stack} {b : Breach} {asked : Asked} {f : Findi
       let below : rank < b .rank =
       ⊎-elim (λ e. absurd (true≢false (sym (first .broken (rw (← e) inside) .0) ∙ rw (← e) other))) (λ less. less) (eq-or-lt-of-le (r .within))
       in
-      (⊎-elim (λ s. absurd (true≢false (sym s ∙ other))) (λ a. tells .each (ruleAt rank) a) (covers .each rank below), r .broken below)
+      (⊎-elim (λ s. absurd (true≢false (sym s ∙ other))) (λ a. tells .each (ruleAt rank) a (beforehand f rank inside (λ j less. r .kept j less))) (covers .each rank below), r .broken below)
 
   pub surveyed : {used : UsedTrucks} → CountsTrucks i p (used .count) (used .cost)
       → SurveyOf i p (record { rank = rank; first = b; found = f; used = used })

@@ -39,6 +39,10 @@ isAsked asked (OfTrucks Overload) = asked .weights
 isAsked asked (OfTrucks Middle) = asked .weights
 isAsked asked (OfTrucks Rear) = asked .weights
 
+-- all kinds
+abbrev pub everything : Asked
+everything = record { «single_pair» = true; placement = true; weights = true }
+
 -- what is asked, with one kind more
 abbrev pub withPlacement : Asked → Asked
 withPlacement asked = record { «single_pair» = asked .«single_pair»; placement = true; weights = asked .weights }
@@ -133,15 +137,29 @@ joined a b = record {
   weights = joinedWeights (a .weights) (b .weights);
 }
 
+-- what must be kept before a rule is told: the loading order is asked only where no stacks overlap, since the plan is refused by 23 otherwise
+abbrev pub Beforehand : Rule → Findings → Type 0
+Beforehand (OfStacks rule) f = Unit {0}
+Beforehand (OfPairs SecondPair) f = Unit {0}
+Beforehand (OfPairs Overlap) f = Unit {0}
+Beforehand (OfPairs Order) f = pairKept Overlap f ≡ true
+Beforehand (OfTrucks rule) f = Unit {0}
+
 -- the answers on all rules that are asked
 pub record TellsAsked (asked : Asked) (i : Instance) (p : List Stack) (f : Findings) : Type 0 where
-  pub each : (rule : Rule) → isAsked asked rule ≡ true → Tells rule i p f
+  pub each : (rule : Rule) → isAsked asked rule ≡ true → Beforehand rule f → Tells rule i p f
 
 -- how many used trucks a plan has, and what they cost together
 pub record CountsTrucks (i : Instance) (p : List Stack) (count cost : ℕ) : Type 0 where
   pub counted : count ≡ length (usedTrucks p)
   pub paid : cost ≡ sum (transportCost i) (usedTrucks p)
   pub few : cost ≤ 4194304000000000
+
+-- the used trucks keep every rule that is asked of them
+abbrev pub allKept : Findings → Bool
+allKept f =
+    pairKept SecondPair f && pairKept Overlap f && pairKept Order f && nothing (truckFound Unbraced f) && nothing (truckFound Overload f)
+    && nothing (truckFound Middle f) && nothing (truckFound Rear f)
 
 -- the first rank below `upto` at which the used trucks tell of a broken rule, or `upto`
 pub record FirstRank (f : Findings) (upto rank : ℕ) : Type 0 where

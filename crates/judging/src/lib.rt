@@ -18,7 +18,7 @@ ghost use Rattle.visits.specs.Visits.{visitAt, block, HoldsRows, OneTruck};
 ghost use Rattle.placement.specs.Placed.{TruckRows, PlacedRows};
 ghost use Rattle.axles.specs.Weights.{LowestPlaces};
 ghost use Rattle.judging.specs.Judging.{withPlacement, withWeights, withPairRule, withTruckRule, withRule, AskedBelow, joinedPlacement, joinedWeights, TellsAsked, CountsTrucks};
-ghost use Rattle.judging.specs.Judging.{pairKept, truckFound, keptBy, FirstRank, SurveyOf, placeIn};
+ghost use Rattle.judging.specs.Judging.{pairKept, truckFound, keptBy, allKept, FirstRank, SurveyOf, placeIn};
 use axles::WeightPlaces;
 use axles::truck_weights;
 use costs::plan_cost;
@@ -119,11 +119,19 @@ fn with_rule(asked: Asked, rule: Rule) -> Asked
     }
 }
 
-// The kinds of the rules before a rank. A rule that comes later need not be asked where one of that rank is broken.
+// The kinds of the rules below a rank. A rule that comes later need not be asked where one of that rank is broken. Most plans break none on
+// single stacks, and then everything is asked.
 fn kinds_below(rank: usize) -> Asked
     requires { ⌜ rank ≤ ruleCount ⌝ }
     ensures { λ r. ⌜ AskedBelow rank r ⌝ }
 {
+    if rank == RULES {
+        return Asked {
+            single_pair: true,
+            placement: true,
+            weights: true,
+        };
+    }
     let mut asked = Asked {
         single_pair: false,
         placement: false,
@@ -340,11 +348,30 @@ fn is_kept(rule: Rule, found: Findings) -> bool
     }
 }
 
-// The rank of the first rule that the used trucks break, of those below `upto`; `upto` where there is none.
+// Whether the used trucks keep every rule that is asked of them.
+fn all_kept(found: Findings) -> bool
+    ensures { λ r. ⌜ r ≡ allKept found ⌝ }
+{
+    let placement = found.placement;
+    let unbraced = placement.unbraced;
+    let weights = found.weights;
+    let overload = weights.overload;
+    let middle = weights.middle;
+    let rear = weights.rear;
+    (((((found.single_pair & placement.apart) & placement.in_order) & is_nothing(unbraced))
+        & is_nothing(overload))
+        & is_nothing(middle))
+        & is_nothing(rear)
+}
+
+// The rank of the first rule that the used trucks break, of those below `upto`; `upto` where there is none, as in most plans.
 fn first_rank(found: Findings, upto: usize) -> usize
     requires { ⌜ upto ≤ ruleCount ⌝ }
     ensures { λ r. ⌜ FirstRank found upto r ⌝ }
 {
+    if all_kept(found) {
+        return upto;
+    }
     let mut rank = 0;
     while rank < upto {
         if !is_kept(rule_at(rank), found) {
