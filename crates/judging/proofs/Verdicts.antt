@@ -57,6 +57,13 @@ kept-told {f} {g} {none} e h = by-kind g e
     by-kind (At p) e = fails none (λ t. never p (sym e ∙ h .0 t))
     by-kind Nothing e = h .1 e
 
+pub told-nothing : {f : Found} {none : Bool} → (none ≡ true) ↔ (f ≡ Nothing) → none ≡ nothing f
+told-nothing h = kept-told refl h
+
+-- a rule by another name
+pub told-of : (f : Findings) {rule same : Rule} {kept : Bool} → kept ≡ keptBy rule f → rule ≡ same → kept ≡ keptBy same f
+told-of f e r = e ∙ ap (λ r. keptBy r f) r
+
 -- a search that is made where a rule is not kept finds a place
 pub lowest-broken : {f : Found} {places : List Place} {kept : Bool} → f ≡ lowestIn places → (kept ≡ true) ↔ (places ≡ []) → kept ≡ false
     → At (placeIn f) ≡ lowestIn places
@@ -74,14 +81,14 @@ told-kept asked i p f (OfPairs rule) a h e = h .0 e
 told-kept asked i p f (OfTrucks rule) a h e = none-listed _ (found-none (truckFound rule f) e ∙ h)
 
 -- ---- 23 comes before 25, so the loading order is told where it is asked for
-isOverlap : Rule → Bool
+abbrev isOverlap : Rule → Bool
 isOverlap (OfStacks rule) = false
 isOverlap (OfPairs SecondPair) = false
 isOverlap (OfPairs Overlap) = true
 isOverlap (OfPairs Order) = false
 isOverlap (OfTrucks rule) = false
 
-isOrder : Rule → Bool
+abbrev isOrder : Rule → Bool
 isOrder (OfStacks rule) = false
 isOrder (OfPairs SecondPair) = false
 isOrder (OfPairs Overlap) = false
