@@ -78,7 +78,7 @@ fn total_weight(rows: &[u32], on: Block) -> u64
 }
 
 // A stack's weight times twice the distance of its middle before the rear axle; `twice` is 2A.
-pub fn lever_by(weight: u32, x: u32, xe: u32, twice: u32) -> i64
+fn lever_by(weight: u32, x: u32, xe: u32, twice: u32) -> i64
     requires { ⌜ (weight ≤ 3200000) × (x ≤ 20000) × (xe ≤ 40000) × (twice ≤ 80000) ⌝ }
     ensures { λ r. ⌜ r ≡ leverBy weight x xe twice ⌝ }
 {

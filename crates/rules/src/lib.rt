@@ -83,7 +83,7 @@ pub fn verdict_at(rank: usize) -> u32
 }
 
 // The rule of a verdict. Another number has none, and the last rule stands in.
-pub fn rule_of(verdict: u32) -> Rule
+fn rule_of(verdict: u32) -> Rule
     ensures { λ r. ⌜ r ≡ ruleOf verdict ⌝ }
 {
     match verdict {

@@ -64,7 +64,7 @@ pub fn stacks_at(limits: Limits) -> usize
 }
 
 // The first word of the loads, behind the stacks.
-pub fn loads_at(limits: Limits) -> usize
+fn loads_at(limits: Limits) -> usize
     requires { ⌜ Bounded limits ⌝ }
     ensures { λ r. ⌜ r ≡ loadsAt limits ⌝ }
 {
@@ -325,22 +325,4 @@ pub fn load<'a>(t: &'a [u32], limits: Limits, s: usize) -> &'a [u32]
     let first = as_index(words[LOAD_FIRST]);
     let count = as_index(words[LOAD_COUNT]);
     words_from(load_words(t, limits), first, count)
-}
-
-// How many items a stack has.
-pub fn load_count(t: &[u32], limits: Limits, s: usize) -> usize
-    requires { ⌜ Filled limits (now t) × (s < length (stacksIn limits (now t))) ⌝ }
-    ensures { λ r. ⌜ (r ≡ length (stackAt (stacksIn limits (now (t .entry))) s .load)) × (1 ≤ r) × (r ≤ 64) ⌝ }
-{
-    load(t, limits, s).len()
-}
-
-// The number of an item of a stack, by its place in the load, from 0 at the bottom.
-pub fn load_entry(t: &[u32], limits: Limits, s: usize, j: usize) -> u32
-    requires { ⌜ Filled limits (now t) × (s < length (stacksIn limits (now t)))
-        × (j < length (stackAt (stacksIn limits (now t)) s .load)) ⌝ }
-    ensures { λ r. ⌜ (r ≡ getD (stackAt (stacksIn limits (now (t .entry))) s .load) j 0) × ItemNumber (instanceIn limits (now (t .entry))) r ⌝ }
-{
-    let items = load(t, limits, s);
-    items[j]
 }

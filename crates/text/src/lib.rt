@@ -55,7 +55,7 @@ pub fn line_end(bytes: &[u8], from: usize) -> usize
 }
 
 // Whether the line begins with the key, byte by byte.
-pub fn begins_with(line: &[u8], key: &[u8]) -> bool
+fn begins_with(line: &[u8], key: &[u8]) -> bool
     ensures { λ r. ⌜ cond r (some (drop (length (now (key .entry))) (now (line .entry)))) none
         ≡ valueAfter (now (key .entry)) (now (line .entry)) ⌝ }
 {
@@ -73,7 +73,7 @@ pub fn begins_with(line: &[u8], key: &[u8]) -> bool
 }
 
 // The rest of the line behind its first bytes: behind its key, the line's value.
-pub fn rest_of<'a>(line: &'a [u8], from: usize) -> &'a [u8]
+fn rest_of<'a>(line: &'a [u8], from: usize) -> &'a [u8]
     ensures { λ r. ⌜ now r ≡ drop from (now (line .entry)) ⌝ }
 {
     if from <= line.len() {
@@ -85,21 +85,21 @@ pub fn rest_of<'a>(line: &'a [u8], from: usize) -> &'a [u8]
 }
 
 // Whether the byte is a decimal digit.
-pub fn is_digit(byte: u8) -> bool
+fn is_digit(byte: u8) -> bool
     ensures { λ r. ⌜ r ≡ isDigit byte ⌝ }
 {
     48 <= byte && byte <= 57
 }
 
 // The same number, wider, so that ten digits fit.
-pub fn widened(digit: u8) -> u64
+fn widened(digit: u8) -> u64
     ensures { λ r. ⌜ r ≡ digit ⌝ }
 {
     digit as u64
 }
 
 // The number as a word; the largest word where it does not fit, which every range refuses.
-pub fn as_word(n: u64) -> u32
+fn as_word(n: u64) -> u32
     ensures { λ r. ⌜ r ≡ word n ⌝ }
 {
     if n < 4294967295 { n as u32 } else { 4294967295 }
@@ -113,7 +113,7 @@ pub enum Parsed {
 
 // The number from `from` on, which ends before a comma or where the value ends: 1 to 10 digits, without needless leading zero. It is worked out
 // on the way to its end, since a second walk over the digits takes time.
-pub fn parse_number(value: &[u8], from: usize) -> Parsed
+fn parse_number(value: &[u8], from: usize) -> Parsed
     ensures { λ r. ⌜ r ≡ parsedPart from (drop from (now (value .entry))) ⌝ }
 {
     let mut n: u64 = 0;
@@ -150,7 +150,7 @@ pub enum ParsedNumbers {
 }
 
 // Stores the numbers of a value, which stand between commas, from the front of `out` on.
-pub fn parse_numbers(value: &[u8], least: usize, out: &mut [u32]) -> ParsedNumbers
+fn parse_numbers(value: &[u8], least: usize, out: &mut [u32]) -> ParsedNumbers
     ensures answer { λ r. ⌜ r ≡ parsedNumbers least (length (now (out .entry))) (numbers (commaParts (now (value .entry)))) ⌝ }
     ensures words { λ _. ⌜ now (out .exit) ≡ sets (now (out .entry)) 0
         (leading (length (now (out .entry))) (commaParts (now (value .entry)))) ⌝ }

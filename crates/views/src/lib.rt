@@ -109,7 +109,7 @@ pub fn read_position(t: &[u32], limits: Limits, s: usize) -> Position
 
 // How far a stack reaches along the trailer and across it, by length and width of its bottom item. No other function knows what an
 // orientation means.
-pub fn extent_of(length: u32, width: u32, orientation: u32) -> Extent
+fn extent_of(length: u32, width: u32, orientation: u32) -> Extent
     requires { ⌜ (1 ≤ orientation) × (orientation ≤ 2) ⌝ }
     ensures { λ r. ⌜ r ≡ extentOf length width orientation ⌝ }
 {
@@ -126,7 +126,7 @@ pub fn extent_of(length: u32, width: u32, orientation: u32) -> Extent
 }
 
 // The ground of a stack, by its position and by length and width of its bottom item.
-pub fn footprint_from(position: Position, length: u32, width: u32) -> Footprint
+fn footprint_from(position: Position, length: u32, width: u32) -> Footprint
     requires { ⌜ PositionInRange position × (length ≤ 20000) × (width ≤ 20000) ⌝ }
     ensures { λ r. ⌜ r ≡ footprintFrom position length width ⌝ }
 {
