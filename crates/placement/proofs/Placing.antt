@@ -140,6 +140,7 @@ module _ {m : Limits} {t rows : List ℕ} {on : Block} (h : HoldsRows m t rows) 
   placed-stacks placed =
       record {
         apart = iff-trans (placed .apart) (iff-trans (two-agree (λ j k a b. disjoint-is h j k (within j (a .1)) (within k (b .1)))) (block-pairs one disjoint i));
-        ordered = iff-trans (placed .ordered) (iff-trans (two-agree (λ j k a b. order-is h j k (within j (a .1)) (within k (b .1)))) (block-pairs one inLoadingOrder i));
+        ordered = λ e. iff-trans (placed .ordered e) (iff-trans (two-agree (λ j k a b. order-is h j k (within j (a .1)) (within k (b .1)))) (block-pairs one inLoadingOrder i));
+        unordered = placed .unordered;
         unbraced = placed .unbraced ∙ unbraced-same;
       }

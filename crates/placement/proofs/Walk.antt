@@ -1,7 +1,7 @@
 -- The walk over the stacks of a used truck, from the last along the trailer to the first, and what it tells in the end.
 use mathlib.Core.Path.{_≡_, refl, sym, ap, subst, _∙_}
 use mathlib.Core.Logic.{_↔_, ⊎-elim}
-use mathlib.Core.Bool.{Bool, true, not, _&&_}
+use mathlib.Core.Bool.{Bool, true, false, not}
 use mathlib.Core.List.{List, flatMap}
 use Prim.Native.Nat.{ℕ, _+_, _-_, _≤_, _<_}
 use native.Mathlib.Nat.{eq-or-lt-of-le}
@@ -12,7 +12,7 @@ use lib.Seq.{getD-take}
 use Rattle.meaning.specs.declared.Place.{Place}
 use Rattle.meaning.specs.Lists.{In, onlyIf, upFrom}
 use Rattle.meaning.specs.Places.{place}
-use Rattle.meaning.proofs.Tests.{and-reads, iff-trans, iff-both}
+use Rattle.meaning.proofs.Tests.{true≢false, iff-trans}
 use Rattle.meaning.proofs.Lists.{in-flatMap, in-upFrom}
 use Rattle.search.specs.declared.Found.{Found}
 use Rattle.search.specs.declared.Found.the-variants.{Nothing}
@@ -37,15 +37,22 @@ module _ {P : ℕ → Type 0} {count : ℕ} where
   pub all-start : AllFrom P count count true
   all-start = record { upto = omega arith; is = ((λ e j from less. absurd (omega arith)), (λ each. refl)) }
 
-  pub all-more : {k : ℕ} {told here : Bool} → AllFrom P count k told → 0 < k → (here ≡ true) ↔ P (k - 1) → AllFrom P count (k - 1) (told && here)
-  all-more {k} {told} {here} h some asks =
+  -- the place before is asked, unless the answer is no already
+  pub all-more : {k : ℕ} {told here : Bool} → AllFrom P count k told → 0 < k → told ≡ true → (here ≡ true) ↔ P (k - 1) → AllFrom P count (k - 1) here
+  all-more {k} h some e asks =
       record {
         upto = omega (arith, h .upto);
-        is = iff-trans (and-reads told here) (iff-trans (iff-both (h .is) asks) (
-          (λ both j from less. ⊎-elim (λ q. subst P q (both .1)) (λ q. both .0 j (omega arith) less) (eq-or-lt-of-le from)),
-          (λ each. ((λ j from less. each j (omega arith) less), each (k - 1) (omega arith) (omega (arith, h .upto)))),
-        ));
+        is = (
+          (λ q j from less. ⊎-elim (λ z. subst P z (asks .0 q)) (λ z. h .is .0 e j (omega arith) less) (eq-or-lt-of-le from)),
+          (λ each. asks .1 (each (k - 1) (omega arith) (omega (arith, h .upto)))),
+        );
       }
+
+  pub all-no : {k : ℕ} {told : Bool} → AllFrom P count k told → told ≡ false → AllFrom P count (k - 1) told
+  all-no h e = record {
+    upto = omega (arith, h .upto);
+    is = ((λ q. absurd (true≢false (sym q ∙ e))), (λ each. h .is .1 (λ j from less. each j (omega arith) less)));
+  }
 
   pub all-end : {k : ℕ} {told : Bool} → AllFrom P count k told → k ≤ 0 → (told ≡ true) ↔ Each P 0 count
   all-end h last = iff-trans (h .is) ((λ each j from less. each j (omega arith) less), (λ each j from less. each j (omega arith) less))
@@ -83,7 +90,7 @@ module _ {rows : List ℕ} {on : Block} {along : List ℕ} (h : RowsByX rows on 
   apart-two = iff-trans (behind-enough (λ j k e. footprints-turned (footprintAt rows (nth k)) (footprintAt rows (nth j)) ∙ e)) (along-two (λ j k. disjointAt rows j k ≡ true))
 
   -- 25 is kept with those behind anyway
-  ordered-two : Each (λ k. Each (λ j. inOrderAt rows (nth k) (nth j) ≡ true) 0 k) 0 count
+  pub ordered-two : Each (λ k. Each (λ j. inOrderAt rows (nth k) (nth j) ≡ true) 0 k) 0 count
       ↔ EachTwo (λ j k. inOrderAt rows j k ≡ true) (on .start) (on .end)
   ordered-two =
       iff-trans (
@@ -115,46 +122,51 @@ module _ {rows : List ℕ} {on : Block} {along : List ℕ} (h : RowsByX rows on 
   )
 
 -- ---- the walk
--- the stacks from the k-th on: whether each is clear of those behind it, each in order with those before it, and the lowest unbraced one
-pub record PlacedFrom (rows : List ℕ) (on : Block) (along : List ℕ) (k : ℕ) (apart ordered : Bool) (unbraced : Found) : Type 0 where
+-- the stacks from the k-th on: whether each is clear of those behind it, and the lowest unbraced one
+pub record PlacedFrom (rows : List ℕ) (on : Block) (along : List ℕ) (k : ℕ) (apart : Bool) (unbraced : Found) : Type 0 where
   pub held : RowsByX rows on along
   pub clear : AllFrom (λ l. Each (λ j. disjointAt rows (placeAt on along l) (placeAt on along j) ≡ true) (l + 1) (on .end - on .start))
       (on .end - on .start) k apart
-  pub before : AllFrom (λ l. Each (λ j. inOrderAt rows (placeAt on along l) (placeAt on along j) ≡ true) 0 l) (on .end - on .start) k ordered
   pub lowest : LowestFrom (unbracedAt rows on) (take (on .end - on .start) along) k unbraced
 
 module _ {rows : List ℕ} {on : Block} {along : List ℕ} where
-  pub placed-start : RowsByX rows on along → PlacedFrom rows on along (on .end - on .start) true true Nothing
+  pub placed-start : RowsByX rows on along → PlacedFrom rows on along (on .end - on .start) true Nothing
   placed-start h =
-      record {
-        held = h;
-        clear = all-start;
-        before = all-start;
-        lowest = from-start (omega (arith, length-take (on .end - on .start) along, h .sorted .room));
-      }
+      record { held = h; clear = all-start; lowest = from-start (omega (arith, length-take (on .end - on .start) along, h .sorted .room)) }
 
-  module _ {k : ℕ} {apart ordered : Bool} {unbraced : Found} (placed : PlacedFrom rows on along k apart ordered unbraced) where
+  module _ {k : ℕ} {apart : Bool} {unbraced : Found} (placed : PlacedFrom rows on along k apart unbraced) where
     pub next-inside : 0 < k → k - 1 < on .end - on .start
     next-inside some = omega (arith, placed .clear .upto)
 
-    pub placed-more : 0 < k → {at number : ℕ} {braced clear before : Bool} {here r : Found}
-        → at ≡ placeAt on along (k - 1) → number ≡ rowWord rows at 1 → braced ≡ bracedAt rows on (placeAt on along (k - 1))
-        → here ≡ lowestIn (onlyIf (not braced) (place number 0 0)) → r ≡ lowerFound here unbraced
-        → (clear ≡ true) ↔ Each (λ j. disjointAt rows (placeAt on along (k - 1)) (placeAt on along j) ≡ true) (k - 1 + 1) (on .end - on .start)
-        → (before ≡ true) ↔ Each (λ j. inOrderAt rows (placeAt on along (k - 1)) (placeAt on along j) ≡ true) 0 (k - 1)
-        → PlacedFrom rows on along (k - 1) (apart && clear) (ordered && before) r
-    placed-more some ea en eb eh er ec eo =
-        record {
-          held = placed .held;
-          clear = all-more (placed .clear) some ec;
-          before = all-more (placed .before) some eo;
-          lowest = from-more 0 (placed .lowest) some (sym (getD-take (on .end - on .start) along (k - 1) 0 (next-inside some))) (eh ∙ rw (en, ea, eb) refl) er;
-        }
+    -- the next one: whether it is braced, and where no two overlap so far, whether it is clear
+    module _ (some : 0 < k) {at number : ℕ} {braced : Bool} {here r : Found} (ea : at ≡ placeAt on along (k - 1)) (en : number ≡ rowWord rows at 1)
+        (eb : braced ≡ bracedAt rows on (placeAt on along (k - 1))) (eh : here ≡ lowestIn (onlyIf (not braced) (place number 0 0)))
+        (er : r ≡ lowerFound here unbraced) where
+      lowest-more : LowestFrom (unbracedAt rows on) (take (on .end - on .start) along) (k - 1) r
+      lowest-more =
+          from-more 0 (placed .lowest) some (sym (getD-take (on .end - on .start) along (k - 1) 0 (next-inside some))) (eh ∙ rw (en, ea, eb) refl) er
 
-    pub placed-end : k ≤ 0 → PlacedRows rows on (record { apart = apart; «in_order» = ordered; unbraced = unbraced })
-    placed-end last =
-        record {
-          apart = iff-trans (all-end (placed .clear) last) (apart-two (placed .held));
-          ordered = iff-trans (all-end (placed .before) last) (ordered-two (placed .held));
-          unbraced = from-end (placed .lowest) last ∙ unbraced-all (placed .held);
-        }
+      pub clear-asked : {clear : Bool} → apart ≡ true
+          → (clear ≡ true) ↔ Each (λ j. disjointAt rows (placeAt on along (k - 1)) (placeAt on along j) ≡ true) (k - 1 + 1) (on .end - on .start)
+          → PlacedFrom rows on along (k - 1) clear r
+      clear-asked e asks = record { held = placed .held; clear = all-more (placed .clear) some e asks; lowest = lowest-more }
+
+      pub overlap-known : apart ≡ false → PlacedFrom rows on along (k - 1) apart r
+      overlap-known e = record { held = placed .held; clear = all-no (placed .clear) e; lowest = lowest-more }
+
+    module _ (last : k ≤ 0) where
+      apart-told : (apart ≡ true) ↔ EachTwo (λ j k. disjointAt rows j k ≡ true) (on .start) (on .end)
+      apart-told = iff-trans (all-end (placed .clear) last) (apart-two (placed .held))
+
+      unbraced-told : unbraced ≡ lowestIn (unbracedPlaces rows on)
+      unbraced-told = from-end (placed .lowest) last ∙ unbraced-all (placed .held)
+
+      -- the order is asked where no two overlap
+      pub placed-apart : {ordered : Bool} → apart ≡ true → (ordered ≡ true) ↔ EachTwo (λ j k. inOrderAt rows j k ≡ true) (on .start) (on .end)
+          → PlacedRows rows on (record { apart = apart; «in_order» = ordered; unbraced = unbraced })
+      placed-apart e asks =
+          record { apart = apart-told; ordered = λ q. asks; unordered = λ q. absurd (true≢false (sym e ∙ q)); unbraced = unbraced-told }
+
+      pub placed-overlap : apart ≡ false → PlacedRows rows on (record { apart = apart; «in_order» = apart; unbraced = unbraced })
+      placed-overlap e =
+          record { apart = apart-told; ordered = λ q. absurd (true≢false (sym q ∙ e)); unordered = λ q. q; unbraced = unbraced-told }

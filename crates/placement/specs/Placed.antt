@@ -1,7 +1,7 @@
 -- Where the stacks of a used truck stand on its floor: what is told of their rows, and what that says of the stacks.
 use mathlib.Core.Path.{_≡_}
 use mathlib.Core.Logic.{_↔_}
-use mathlib.Core.Bool.{Bool, true, not, _||_}
+use mathlib.Core.Bool.{Bool, true, false, not, _||_}
 use mathlib.Core.List.{List, [], flatMap}
 use Prim.Native.Nat.{ℕ, _-_, _*_, _≤_, _<_}
 use lib.Dec.{eqb}
@@ -38,14 +38,16 @@ abbrev pub unbracedPlaces : List ℕ → Block → List Place
 unbracedPlaces rows on =
     flatMap (λ k. onlyIf (not (bracedAt rows on k)) (place (rowWord rows k 1) 0 0)) (upFrom (on .start) (on .end - on .start))
 
--- the answer on rows
+-- the answer on rows; the order is told where no two overlap, and else the answer is no
 pub record PlacedRows (rows : List ℕ) (on : Block) (r : Placement) : Type 0 where
   pub apart : (r .apart ≡ true) ↔ EachTwo (λ j k. disjointAt rows j k ≡ true) (on .start) (on .end)
-  pub ordered : (r .«in_order» ≡ true) ↔ EachTwo (λ j k. inOrderAt rows j k ≡ true) (on .start) (on .end)
+  pub ordered : r .apart ≡ true → ((r .«in_order» ≡ true) ↔ EachTwo (λ j k. inOrderAt rows j k ≡ true) (on .start) (on .end))
+  pub unordered : r .apart ≡ false → r .«in_order» ≡ false
   pub unbraced : r .unbraced ≡ lowestIn (unbracedPlaces rows on)
 
 -- and on stacks: whether 23 overlap and 25 order are kept, and where 24 unbraced is broken first
 pub record PlacedStacks (i : Instance) (p : List Stack) (r : Placement) : Type 0 where
   pub apart : (r .apart ≡ true) ↔ (pairPlaces disjoint i p ≡ [])
-  pub ordered : (r .«in_order» ≡ true) ↔ (pairPlaces inLoadingOrder i p ≡ [])
+  pub ordered : r .apart ≡ true → ((r .«in_order» ≡ true) ↔ (pairPlaces inLoadingOrder i p ≡ []))
+  pub unordered : r .apart ≡ false → r .«in_order» ≡ false
   pub unbraced : r .unbraced ≡ lowestIn (stackPlaces braced noAmount i p)

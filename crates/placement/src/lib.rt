@@ -7,7 +7,7 @@ ghost use mathlib.Core.Bool.{true};
 ghost use Prim.Native.Nat.{_+_, _-_, _≤_, _<_};
 ghost use lib.ListN.{length};
 ghost use Rattle.visits.specs.Visits.{footprintAt};
-ghost use Rattle.pairrules.specs.PairRules.{disjointAt, inOrderAt, Each, placeAt};
+ghost use Rattle.pairrules.specs.PairRules.{disjointAt, inOrderAt, Each, EachTwo, placeAt};
 ghost use Rattle.placement.specs.Placed.{TruckRows, RowsByX, bracedAt, PlacedRows};
 use pairrules::disjoint;
 use pairrules::in_contact;
@@ -25,7 +25,7 @@ use visits::row_word;
 
 pub struct Placement {
     pub apart: bool, // 23: no two overlap
-    pub in_order: bool, // 25: each two keep the loading order
+    pub in_order: bool, // 25: where no two overlap, each two keep the loading order
     pub unbraced: Found, // 24: the lowest stack that is not braced
 }
 
@@ -105,13 +105,28 @@ fn is_in_order(rows: &[u32], on: Block, along: &[u32], k: usize) -> bool
     true
 }
 
-// The three rules, stack by stack.
+// 25 order: whether each two stacks keep the loading order.
+fn are_in_order(rows: &[u32], on: Block, along: &[u32]) -> bool
+    requires { ⌜ RowsByX (now rows) on (now along) ⌝ }
+    ensures { λ r. ⌜ (r ≡ true) ↔ EachTwo (λ j k. inOrderAt (now (rows .entry)) j k ≡ true) (on .start) (on .end) ⌝ }
+{
+    let count = on.end - on.start;
+    let mut k = 0;
+    while k < count {
+        if !is_in_order(rows, on, along, k) {
+            return false;
+        }
+        k += 1;
+    }
+    true
+}
+
+// 23 and 24, stack by stack; then 25, which looks at many pairs. A plan with stacks that overlap is refused by 23, so there it is not asked.
 fn placement_along(rows: &[u32], on: Block, along: &[u32]) -> Placement
     requires { ⌜ RowsByX (now rows) on (now along) ⌝ }
     ensures { λ r. ⌜ PlacedRows (now (rows .entry)) on r ⌝ }
 {
     let mut apart = true;
-    let mut in_order = true;
     let mut unbraced = Found::Nothing;
     let mut k = on.end - on.start;
     while 0 < k {
@@ -119,9 +134,9 @@ fn placement_along(rows: &[u32], on: Block, along: &[u32]) -> Placement
         let number = row_word(rows, place_along(on, along, k), row::NUMBER);
         let here = place_if(!is_braced(rows, on, along, k), number, 0, 0);
         unbraced = lower_of(here, unbraced);
-        apart = apart & is_clear(rows, on, along, k);
-        in_order = in_order & is_in_order(rows, on, along, k);
+        apart = apart && is_clear(rows, on, along, k);
     }
+    let in_order = apart && are_in_order(rows, on, along);
     Placement {
         apart,
         in_order,

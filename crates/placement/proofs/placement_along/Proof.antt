@@ -1,16 +1,16 @@
--- `placement::placement_along`: the stacks are taken from the last along the trailer to the first.
+-- `placement::placement_along`: the stacks are taken from the last along the trailer to the first; then the order is asked, where no two overlap.
 use native.Mathlib.Omega.{arith}
 use borrow.Author.Needs.{needs}
 use Rattle.placement.proofs.Trailer.{nth-room}
-use Rattle.placement.proofs.Walk.{PlacedFrom, next-inside, placed-start, placed-more, placed-end}
+use Rattle.placement.proofs.Walk.{PlacedFrom, next-inside, placed-start, clear-asked, overlap-known, placed-apart, placed-overlap}
 use Rattle.placement.proofs.placement_along.Statement.{statement}
 use Rattle.placement.proofs.placement_along.Tie as tie
 
 abbrev Inv-loop : tie.InvT-loop
-Inv-loop rows on along apart₀ in-order₀ unbraced₀ k₀ apart in-order unbraced k = PlacedFrom rows on along k apart in-order unbraced
+Inv-loop rows on along apart₀ unbraced₀ k₀ apart unbraced k = PlacedFrom rows on along k apart unbraced
 
 abbrev μ-loop : tie.MeasureT-loop
-μ-loop rows on along apart₀ in-order₀ unbraced₀ k₀ apart in-order unbraced k = k
+μ-loop rows on along apart₀ unbraced₀ k₀ apart unbraced k = k
 
 sub-k : tie.Need-sub-k Inv-loop μ-loop
 sub-k c = search needs
@@ -46,12 +46,6 @@ lower-of-requires c κs = search needs
 
 is-clear-requires : tie.Need-is-clear-requires Inv-loop μ-loop
 is-clear-requires c κs =
-    let braced = c .before .before in
-    let test = braced .before .before .before in
-    (test .before .loop .inv .held, next-inside (test .before .loop .inv) (test .loop-test .taken))
-
-is-in-order-requires : tie.Need-is-in-order-requires Inv-loop μ-loop
-is-in-order-requires c κs =
     let braced = c .before .before .before in
     let test = braced .before .before .before in
     (test .before .loop .inv .held, next-inside (test .before .loop .inv) (test .loop-test .taken))
@@ -64,12 +58,34 @@ loop-again c =
     let lower = c .before .before in
     let braced = lower .before .before in
     let test = braced .before .before .before in
-    placed-more (test .before .loop .inv) (test .loop-test .taken)
+    clear-asked (test .before .loop .inv) (test .loop-test .taken)
     (braced .before .before .place-along .ensures) (braced .before .row-word .ensures) (braced .is-braced .ensures)
-    (lower .before .place-if .ensures) (lower .lower-of .ensures) (c .before .is-clear .ensures) (c .is-in-order .ensures)
+    (lower .before .place-if .ensures) (lower .lower-of .ensures) (c .before .if1 .taken) (c .is-clear .ensures)
+
+loop-less-2 : tie.Need-loop-less-2 Inv-loop μ-loop
+loop-less-2 c = search needs
+
+loop-again-2 : tie.Need-loop-again-2 Inv-loop μ-loop
+loop-again-2 c =
+    let lower = c .before in
+    let braced = lower .before .before in
+    let test = braced .before .before .before in
+    overlap-known (test .before .loop .inv) (test .loop-test .taken)
+    (braced .before .before .place-along .ensures) (braced .before .row-word .ensures) (braced .is-braced .ensures)
+    (lower .before .place-if .ensures) (lower .lower-of .ensures) (c .if1 .left)
+
+are-in-order-requires : tie.Need-are-in-order-requires Inv-loop μ-loop
+are-in-order-requires c κs = c .before .before .loop .inv .held
 
 returns : tie.Need-returns Inv-loop μ-loop
-returns c = placed-end (c .before .loop .inv) (c .loop-test .left)
+returns c =
+    let passed = c .before .before in
+    placed-apart (passed .before .loop .inv) (passed .loop-test .left) (c .before .if2 .taken) (c .are-in-order .ensures)
+
+returns-2 : tie.Need-returns-2 Inv-loop μ-loop
+returns-2 c =
+    let passed = c .before in
+    placed-overlap (passed .before .loop .inv) (passed .loop-test .left) (c .if2 .left)
 
 pub placement-along-spec : {M : Type 1} → statement M
 placement-along-spec =
@@ -86,7 +102,10 @@ placement-along-spec =
     place-if-requires
     lower-of-requires
     is-clear-requires
-    is-in-order-requires
     loop-less
     loop-again
-    returns)
+    loop-less-2
+    loop-again-2
+    are-in-order-requires
+    returns
+    returns-2)
