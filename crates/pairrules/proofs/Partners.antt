@@ -1,13 +1,13 @@
 -- Two stacks that break a rule, as places list them, and the partners that a stack is asked with.
 use mathlib.Core.Path.{_≡_, refl, sym, ap, _∙_}
-use mathlib.Core.Logic.{_↔_}
+use mathlib.Core.Logic.{_↔_, inl, inr, ⊎-elim}
 use mathlib.Core.Bool.{Bool, true, false, not, _&&_}
 use mathlib.Core.List.{List}
-use Prim.Native.Nat.{ℕ, _≤_, _<_}
+use Prim.Native.Nat.{ℕ, _+_, _-_, _≤_, _<_}
 use native.Mathlib.Decide.{decLe}
 use native.Mathlib.Omega.{arith}
-use borrow.Author.Tests.{not-true}
-use lib.Dec.{eqb}
+use borrow.Author.Tests.{not-true, eqb-true}
+use lib.Dec.{eqb, leb, ltb}
 use lib.ListN.{length, getD}
 use Rattle.meaning.specs.declared.Limits.{Limits}
 use Rattle.meaning.specs.declared.Place.{Place}
@@ -17,19 +17,20 @@ use Rattle.meaning.specs.Measures.{UsedTruck, usedBy, sameUsed, another}
 use Rattle.meaning.specs.Places.{place}
 use Rattle.meaning.specs.Rules.{pairPlaces, inLoadingOrder}
 use Rattle.meaning.specs.Table.{instanceIn, stacksIn}
-use Rattle.meaning.proofs.Tests.{true≢false, and-reads, not-reads, eq-reads, iff-trans, iff-both, iff-not}
+use Rattle.meaning.proofs.Tests.{true≢false, and-reads, not-reads, le-reads, lt-reads, eq-reads, iff-trans, iff-both, iff-not}
 use Rattle.meaning.proofs.Lists.{at-in, in-at, in-onlyIf, in-flatMap}
 use Rattle.meaning.proofs.Permute.{perm-same}
 use Rattle.meaning.proofs.RuleKinds.{used-reads}
 use Rattle.meaning.proofs.WellFormed.{meets-formed}
 use Rattle.table.specs.Filled.{noStack}
-use Rattle.visits.specs.Visits.{visitOrder, visitAt, visited, HoldsRows, OneTruck, Parted}
+use Rattle.visits.specs.declared.Block.{Block}
+use Rattle.visits.specs.Visits.{visitOrder, visitAt, visited, HoldsRows, OneTruck, Parted, rowWord, sameTruckAt}
 use Rattle.visits.proofs.Order.{order-within, order-rising, visited-length, visited-at, visited-perm}
 use Rattle.visits.proofs.Reading.{run-before, run-behind}
 use Rattle.rules.specs.declared.PairRule.{PairRule}
 use Rattle.rules.specs.declared.PairRule.the-variants.{SecondPair, Overlap, Order}
 use Rattle.rules.specs.LoadingRules.{pairTest}
-use Rattle.pairrules.specs.PairRules.{PartnersFrom, PartnersOf}
+use Rattle.pairrules.specs.PairRules.{Inside, BlockOf, KnownBlock, firstPartner}
 use Rattle.pairrules.proofs.Pairs.{self-in-order}
 
 -- ---- the places of broken pairs
@@ -94,42 +95,87 @@ module _ {m : Limits} {t rows : List ℕ} (h : HoldsRows m t rows) where
       omega (arith, order-rising p j k upto inside, ap (λ (u : UsedTruck). u .truck) used, ap (λ (u : UsedTruck). u .copy) used)
 
   -- ---- the partners of the stack at place a
-  module _ {rule : PairRule} {a start end : ℕ} (partners : PartnersOf rule rows a (length p) (record { start = start; end = end })) where
-    pub behind : OneTruck p a end × Parted p end
-    behind = run-behind h (partners .upto)
+  module _ {a : ℕ} {on : Block} (around : BlockOf rows a (length p) on) where
+    before-it : OneTruck p (on .start) (a + 1) × Parted p (on .start)
+    before-it = run-before h (omega (arith, around .behind .some, around .behind .within)) (around .before)
 
-    pub inside-a : a < length p
-    inside-a = omega (arith, behind .0 .some, behind .0 .within)
+    behind-it : OneTruck p a (on .end) × Parted p (on .end)
+    behind-it = run-behind h (around .behind)
 
-    -- those of its used truck stand before the end
-    pub before-end : (k : ℕ) → k < length p → usedBy (visitAt p a) ≡ usedBy (visitAt p k) → k < end
-    before-end k inside used = go (decLe end k)
-      where
-        go : Dec (end ≤ k) → k < end
-        go (yes l) = absurd (true≢false (sym (used-reads _ _ .1 used) ∙ behind .1 .apart a k (behind .0 .some) l inside))
-        go (no l) = omega arith
+    pub inside-a : (on .start ≤ a) × (a < on .end) × (on .end ≤ length p)
+    inside-a = (omega (arith, before-it .0 .some), behind-it .0 .some, behind-it .0 .within)
 
-    pub some-partners : (r : PairRule) → PartnersFrom r rows a start → start ≤ end
-    some-partners SecondPair from = omega (arith, behind .0 .some)
-    some-partners Overlap from = omega (arith, behind .0 .some)
-    some-partners Order from = omega (arith, behind .0 .some, from .some)
-
-    -- a partner is another stack of the used truck, unless it is the stack itself, which keeps the rule
-    pub partner-used : (r : PairRule) → PartnersFrom r rows a start → (k : ℕ) → start ≤ k → k < end → usedBy (visitAt p a) ≡ usedBy (visitAt p k)
-    partner-used SecondPair from k low up = sym (behind .0 .same k (omega arith) up)
-    partner-used Overlap from k low up = sym (behind .0 .same k (omega arith) up)
-    partner-used Order from k low up = go (decLe a k)
+    -- those of its used truck are in the block, and no others
+    pub block-used : (k : ℕ) → Inside (on .start) (on .end) k → usedBy (visitAt p a) ≡ usedBy (visitAt p k)
+    block-used k inside = go (decLe a k)
       where
         go : Dec (a ≤ k) → usedBy (visitAt p a) ≡ usedBy (visitAt p k)
-        go (yes l) = sym (behind .0 .same k l up)
-        go (no l) =
-            let before = run-before h (omega (arith, inside-a)) from .0 in
-            before .same a (omega (arith, before .some)) (omega arith) ∙ sym (before .same k low (omega arith))
+        go (yes l) = sym (behind-it .0 .same k l (inside .1))
+        go (no l) = before-it .0 .same a (inside-a .0) (omega arith) ∙ sym (before-it .0 .same k (inside .0) (omega arith))
 
-    pub partner-differs : (r : PairRule) → PartnersFrom r rows a start → (k : ℕ) → start ≤ k → k < end
+    pub used-block : (k : ℕ) → k < length p → usedBy (visitAt p a) ≡ usedBy (visitAt p k) → Inside (on .start) (on .end) k
+    used-block k within used = (from (decLe (on .start) k), upto (decLe (on .end) k))
+      where
+        from : Dec (on .start ≤ k) → on .start ≤ k
+        from (yes l) = l
+        from (no l) =
+            absurd (true≢false (sym (used-reads _ _ .1 (sym used)) ∙ before-it .1 .apart k a (omega arith) (inside-a .0) (omega (arith, inside-a))))
+
+        upto : Dec (on .end ≤ k) → k < on .end
+        upto (yes l) = absurd (true≢false (sym (used-reads _ _ .1 used) ∙ behind-it .1 .apart a k (inside-a .1) l within))
+        upto (no l) = omega arith
+
+    -- the partners are in the block
+    pub some-partners : (r : PairRule) → (on .start ≤ firstPartner r a (on .start)) × (firstPartner r a (on .start) ≤ on .end)
+    some-partners SecondPair = (omega (arith, inside-a), omega (arith, inside-a))
+    some-partners Overlap = (omega (arith, inside-a), omega (arith, inside-a))
+    some-partners Order = (omega arith, omega (arith, inside-a))
+
+    -- a partner is another stack, unless it is the stack itself, which keeps the rule
+    pub partner-differs : (r : PairRule) → (k : ℕ) → firstPartner r a (on .start) ≤ k → k < on .end
         → pairTest r i (visitAt p a) (visitAt p k) ≡ false → number (visitAt p a) ≡ number (visitAt p k) → ⊥
-    partner-differs SecondPair from k low up breaks e = omega (arith, behind .0 .rising a k (omega arith) (omega arith) up)
-    partner-differs Overlap from k low up breaks e = omega (arith, behind .0 .rising a k (omega arith) (omega arith) up)
-    partner-differs Order from k low up breaks e =
-        let same = one-stack _ _ (stack-in a inside-a) (stack-in k (omega (arith, behind .0 .within))) e in
+    partner-differs SecondPair k low up breaks e = omega (arith, behind-it .0 .rising a k (omega arith) (omega arith) up)
+    partner-differs Overlap k low up breaks e = omega (arith, behind-it .0 .rising a k (omega arith) (omega arith) up)
+    partner-differs Order k low up breaks e =
+        let same = one-stack _ _ (stack-in a (omega (arith, inside-a))) (stack-in k (omega (arith, inside-a))) e in
         true≢false (sym (self-in-order i (visitAt p a)) ∙ ap (inLoadingOrder i (visitAt p a)) same ∙ breaks)
+
+-- ---- the block of one stack is that of each in it
+-- two rows of one used truck are alike to any other
+same-moved : (rows : List ℕ) (a b k : ℕ) → sameTruckAt rows b a ≡ true → sameTruckAt rows a k ≡ sameTruckAt rows b k
+same-moved rows a b k e =
+    let both = and-reads (eqb (rowWord rows b 2) (rowWord rows a 2)) (eqb (rowWord rows b 3) (rowWord rows a 3)) .0 e in
+    rw (eqb-true (rowWord rows b 2) (rowWord rows a 2) (both .0), eqb-true (rowWord rows b 3) (rowWord rows a 3) (both .1)) refl
+
+module _ {rows : List ℕ} {count : ℕ} {on : Block} where
+  block-moved : {a b : ℕ} → BlockOf rows b count on → Inside (on .start) (on .end) a → BlockOf rows a count on
+  block-moved {a} {b} h inside =
+      record {
+        before = record {
+          some = omega (arith, inside);
+          same = λ k from up. last a k ∙ moved k ∙ of-truck k (from, omega (arith, inside)) (decLe b k);
+          whole = ⊎-elim inl (λ e. inr (last a _ ∙ moved _ ∙ sym (last b _) ∙ e)) (h .before .whole);
+        };
+        behind = record {
+          some = inside .1;
+          within = h .behind .within;
+          same = λ k from up. moved k ∙ of-truck k (omega (arith, inside), up) (decLe b k);
+          whole = ⊎-elim inl (λ e. inr (moved _ ∙ e)) (h .behind .whole);
+        };
+      }
+    where
+      last : (c k : ℕ) → sameTruckAt rows (c + 1 - 1) k ≡ sameTruckAt rows c k
+      last c k = ap (λ n. sameTruckAt rows n k) (omega arith)
+
+      of-truck : (k : ℕ) → Inside (on .start) (on .end) k → Dec (b ≤ k) → sameTruckAt rows b k ≡ true
+      of-truck k at (yes l) = h .behind .same k l (at .1)
+      of-truck k at (no l) = sym (last b k) ∙ h .before .same k (at .0) (omega arith)
+
+      moved : (k : ℕ) → sameTruckAt rows a k ≡ sameTruckAt rows b k
+      moved k = same-moved rows a b k (of-truck a inside (decLe b a))
+
+  pub block-kept : {a : ℕ} → KnownBlock rows count on → (leb (on .start) a && ltb a (on .end)) ≡ true → BlockOf rows a count on
+  block-kept {a} known e =
+      let both = and-reads (leb (on .start) a) (ltb a (on .end)) .0 e in
+      let inside : Inside (on .start) (on .end) a = (le-reads (on .start) a .0 (both .0), lt-reads a (on .end) .0 (both .1)) in
+      ⊎-elim (λ none. absurd (omega (arith, inside))) (λ w. block-moved (w .1) inside) known

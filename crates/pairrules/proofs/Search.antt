@@ -19,21 +19,20 @@ use Rattle.meaning.specs.Rules.{pairPlaces}
 use Rattle.meaning.specs.Claims.{Before}
 use Rattle.meaning.specs.Table.{instanceIn, stacksIn}
 use Rattle.meaning.proofs.Tests.{true≢false}
-use Rattle.meaning.proofs.RuleKinds.{used-reads}
 use Rattle.search.specs.declared.Found.the-variants.{At, Nothing}
 use Rattle.search.specs.Lowest.{lowestIn}
 use Rattle.search.proofs.Lowest.{found-first, found-none}
 use Rattle.visits.specs.declared.Block.{Block}
 use Rattle.visits.specs.Visits.{visitAt, HoldsRows, rowWord}
-use Rattle.visits.proofs.Reading.{word-is, run-before}
+use Rattle.visits.proofs.Reading.{word-is}
 use Rattle.rules.specs.declared.PairRule.{PairRule}
 use Rattle.rules.specs.declared.PairRule.the-variants.{SecondPair, Overlap, Order}
 use Rattle.rules.specs.LoadingRules.{pairTest}
-use Rattle.pairrules.specs.PairRules.{SortedRows, placeAt, wholePlan, PartnersFrom, PartnersOf}
+use Rattle.pairrules.specs.PairRules.{SortedRows, placeAt, wholePlan, BlockOf, firstPartner}
 use Rattle.pairrules.proofs.Places.{Upto, upto-start, upto-more, upto-kept, same-told}
 use Rattle.pairrules.proofs.Sorted.{place-within, place-there, word-rising}
 use Rattle.pairrules.proofs.Pairs.{single-turned, disjoint-turned}
-use Rattle.pairrules.proofs.Partners.{Broken, pair-listed, listed-pair, stack-in, stack-place, one-stack, number-upto, behind, inside-a, before-end, some-partners, partner-used, partner-differs}
+use Rattle.pairrules.proofs.Partners.{Broken, pair-listed, listed-pair, stack-in, stack-place, one-stack, number-upto, inside-a, block-used, used-block, some-partners, partner-differs}
 
 -- ---- what the loops have passed
 -- a stack keeps a rule with every other on its used truck
@@ -47,11 +46,12 @@ pub record StacksPassed (rule : PairRule) (m : Limits) (t rows order : List ℕ)
   pub passed : Upto (λ l. KeepsWithAll rule (instanceIn m t) (stacksIn m t) (visitAt (stacksIn m t) (getD order l 0))) 0 (length (stacksIn m t)) k
 
 -- and the next one, at place a, with its partners before place b
-pub record PartnersPassed (rule : PairRule) (m : Limits) (t rows order : List ℕ) (k a start end b : ℕ) : Type 0 where
+pub record PartnersPassed (rule : PairRule) (m : Limits) (t rows order : List ℕ) (k a : ℕ) (on : Block) (b : ℕ) : Type 0 where
   pub inside : k < length (stacksIn m t)
   pub is : a ≡ getD order k 0
-  pub partners : PartnersOf rule rows a (length (stacksIn m t)) (record { start = start; end = end })
-  pub passed : Upto (λ j. pairTest rule (instanceIn m t) (visitAt (stacksIn m t) a) (visitAt (stacksIn m t) j) ≡ true) start end b
+  pub around : BlockOf rows a (length (stacksIn m t)) on
+  pub passed : Upto (λ j. pairTest rule (instanceIn m t) (visitAt (stacksIn m t) a) (visitAt (stacksIn m t) j) ≡ true)
+      (firstPartner rule a (on .start)) (on .end) b
 
 pub stacks-start : {rule : PairRule} {m : Limits} {t rows order : List ℕ} → HoldsRows m t rows → SortedRows rows (wholePlan (length (stacksIn m t))) 1 order
     → StacksPassed rule m t rows order 0
@@ -103,28 +103,23 @@ module _ {rule : PairRule} {m : Limits} {t rows order : List ℕ} {k : ℕ} (sta
       let z = numbered-there (w .0) (w .2 .first) in
       true≢false (sym (come (w .0) (z .0) (omega (arith, z .1)) (z .2) (w .1) (w .2 .second) (w .2 .used) (w .2 .differ)) ∙ w .2 .breaks))
 
-  pub partners-start : {count a : ℕ} {on : Block} → count ≡ length p → k < count → a ≡ getD order k 0 → PartnersOf rule rows a count on
-      → PartnersPassed rule m t rows order k a (on .start) (on .end) (on .start)
-  partners-start {on = on} e up is partners =
-      let whole = rw e at partners in
-      record {
-        inside = omega arith;
-        is = is;
-        partners = whole;
-        passed = upto-start (some-partners (stacks .held) whole rule (whole .from));
-      }
+  pub partners-start : {count a b : ℕ} {on : Block} → count ≡ length p → k < count → a ≡ getD order k 0 → BlockOf rows a count on
+      → b ≡ firstPartner rule a (on .start) → PartnersPassed rule m t rows order k a on b
+  partners-start {on = on} e up is around from =
+      let whole = rw e at around in
+      record { inside = omega arith; is = is; around = whole; passed = rw from (upto-start (some-partners (stacks .held) whole rule .1)) }
 
   -- ---- one stack with its partners
-  module _ {a start end b : ℕ} (l : PartnersPassed rule m t rows order k a start end b) where
+  module _ {a b : ℕ} {on : Block} (l : PartnersPassed rule m t rows order k a on b) where
     abbrev s : Stack
     s = visitAt p a
 
     first-within : a < length p
-    first-within = inside-a (stacks .held) (l .partners)
+    first-within = omega (arith, inside-a (stacks .held) (l .around))
 
     -- both are places of the rows
-    pub within : b < end → (a < length p) × (b < length p)
-    within up = (first-within, omega (arith, behind (stacks .held) (l .partners) .0 .within))
+    pub within : b < on .end → (a < length p) × (b < length p)
+    within up = (first-within, omega (arith, inside-a (stacks .held) (l .around)))
 
     -- a stack of the used truck with a lower number has been asked
     asked-turned : (j : ℕ) → j < length p → usedBy s ≡ usedBy (visitAt p j) → number (visitAt p j) < number s → pairTest rule i (visitAt p j) s ≡ true
@@ -135,29 +130,27 @@ module _ {rule : PairRule} {m : Limits} {t rows order : List ℕ} {k : ℕ} (sta
     lower-number j upto used differ =
         ⊎-elim (λ e. absurd (differ (sym e))) (λ less. less) (eq-or-lt-of-le (number-upto (stacks .held) j a upto first-within (sym used)))
 
-    -- so has one that stands before the partners, or there is none
-    asked : (r : PairRule) → PartnersFrom r rows a start
+    -- so has one that stands before the partners
+    asked : (r : PairRule)
         → ((j : ℕ) → j < length p → usedBy s ≡ usedBy (visitAt p j) → number (visitAt p j) < number s → pairTest r i (visitAt p j) s ≡ true)
-        → (j : ℕ) → j < length p → usedBy s ≡ usedBy (visitAt p j) → (number s ≡ number (visitAt p j) → ⊥) → j < start
+        → (j : ℕ) → j < length p → usedBy s ≡ usedBy (visitAt p j) → (number s ≡ number (visitAt p j) → ⊥) → j < firstPartner r a (on .start)
         → pairTest r i s (visitAt p j) ≡ true
-    asked SecondPair from turned j there used differ less =
+    asked SecondPair turned j there used differ less =
         single-turned i s (visitAt p j) ∙ turned j there used (lower-number j (omega arith) used differ)
-    asked Overlap from turned j there used differ less =
+    asked Overlap turned j there used differ less =
         disjoint-turned i s (visitAt p j) ∙ turned j there used (lower-number j (omega arith) used differ)
-    asked Order from turned j there used differ less =
-        let parted = run-before (stacks .held) (omega (arith, first-within)) from .1 in
-        absurd (true≢false (sym (used-reads _ _ .1 (sym used)) ∙ parted .apart j a less (omega (arith, from .some)) first-within))
+    asked Order turned j there used differ less = absurd (omega (arith, used-block (stacks .held) (l .around) j there used))
 
     -- with those before b it keeps the rule, whether they were asked now or earlier
     with-each : (j : ℕ) → j < length p → usedBy s ≡ usedBy (visitAt p j) → (number s ≡ number (visitAt p j) → ⊥) → j < b → pairTest rule i s (visitAt p j) ≡ true
-    with-each j there used differ less = go (decLe start j)
+    with-each j there used differ less = go (decLe (firstPartner rule a (on .start)) j)
       where
-        go : Dec (start ≤ j) → pairTest rule i s (visitAt p j) ≡ true
+        go : Dec (firstPartner rule a (on .start) ≤ j) → pairTest rule i s (visitAt p j) ≡ true
         go (yes q) = l .passed .each j q less
-        go (no q) = asked rule (l .partners .from) asked-turned j there used differ (omega arith)
+        go (no q) = asked rule asked-turned j there used differ (omega arith)
 
     -- and so with all, after the last partner
-    pub stacks-more : end ≤ b → StacksPassed rule m t rows order (k + 1)
+    pub stacks-more : on .end ≤ b → StacksPassed rule m t rows order (k + 1)
     stacks-more last =
         record {
           held = stacks .held;
@@ -166,25 +159,24 @@ module _ {rule : PairRule} {m : Limits} {t rows order : List ℕ} {k : ℕ} (sta
               let w = stack-place (stacks .held) r there in
               let on-it : usedBy s ≡ usedBy (visitAt p (w .0)) = used ∙ ap usedBy (w .2) in
               ap (pairTest rule i s) (w .2)
-              ∙ with-each (w .0) (w .1) on-it (λ q. differ (q ∙ sym (ap number (w .2)))) (omega (arith, before-end (stacks .held) (l .partners) (w .0) (w .1) on-it))));
+              ∙ with-each (w .0) (w .1) on-it (λ q. differ (q ∙ sym (ap number (w .2)))) (omega (arith, used-block (stacks .held) (l .around) (w .0) (w .1) on-it))));
         }
 
-    module _ (up : b < end) {kept : Bool} (asks : kept ≡ pairTest rule i s (visitAt p b)) where
-      pub partners-more : not kept ≡ false → PartnersPassed rule m t rows order k a start end (b + 1)
+    module _ (up : b < on .end) {kept : Bool} (asks : kept ≡ pairTest rule i s (visitAt p b)) where
+      pub partners-more : not kept ≡ false → PartnersPassed rule m t rows order k a on (b + 1)
       partners-more e =
-          record { inside = l .inside; is = l .is; partners = l .partners; passed = upto-kept (l .passed) up (same-told asks) e }
+          record { inside = l .inside; is = l .is; around = l .around; passed = upto-kept (l .passed) up (same-told asks) e }
 
       -- the first pair that breaks the rule is the lowest
       module _ (e : not kept ≡ true) where
         found : Broken (pairTest rule i) p s (visitAt p b)
         found =
             let breaks : pairTest rule i s (visitAt p b) ≡ false = sym asks ∙ not-true kept e in
-            let from = l .partners .from in
             record {
               first = stack-in (stacks .held) a first-within;
               second = stack-in (stacks .held) b (within up .1);
-              used = partner-used (stacks .held) (l .partners) rule from b (l .passed .from) up;
-              differ = partner-differs (stacks .held) (l .partners) rule from b (l .passed .from) up breaks;
+              used = block-used (stacks .held) (l .around) b (omega (arith, some-partners (stacks .held) (l .around) rule, l .passed .from), up);
+              differ = partner-differs (stacks .held) (l .around) rule b (l .passed .from) up breaks;
               breaks = breaks;
             }
 

@@ -1,5 +1,6 @@
 -- The tests of the rules on two stacks on what the rows keep of a stack, and the places of the rows that are asked.
 use mathlib.Core.Path.{_≡_}
+use mathlib.Core.Logic.{_⊎_}
 use mathlib.Core.Bool.{Bool, not, _&&_, _||_}
 use mathlib.Core.List.{List}
 use Prim.Native.Nat.{ℕ, _+_, _-_, _≤_, _<_}
@@ -66,14 +67,18 @@ placeAt on order k = on .start + getD order k 0
 abbrev pub wholePlan : ℕ → Block
 wholePlan count = record { start = 0; end = count }
 
+-- the stacks on the used truck of the stack at place a, among the first `count`
+pub record BlockOf (rows : List ℕ) (a count : ℕ) (on : Block) : Type 0 where
+  pub before : RunBefore rows (on .start) (a + 1)
+  pub behind : RunBehind rows a (on .end) count
+
+-- those of some stack, or none
+abbrev pub KnownBlock : List ℕ → ℕ → Block → Type 0
+KnownBlock rows count on = (on .end ≡ 0) ⊎ ((a : ℕ) × BlockOf rows a count on)
+
 -- where the partners begin that the stack at place a is asked with: for a rule that is the same in both orders behind it, else where its
 -- used truck begins
-abbrev pub PartnersFrom : PairRule → List ℕ → ℕ → ℕ → Type 0
-PartnersFrom SecondPair rows a from = from ≡ a + 1
-PartnersFrom Overlap rows a from = from ≡ a + 1
-PartnersFrom Order rows a from = RunBefore rows from (a + 1)
-
--- and all of them, among the first `count` stacks
-pub record PartnersOf (rule : PairRule) (rows : List ℕ) (a count : ℕ) (on : Block) : Type 0 where
-  pub from : PartnersFrom rule rows a (on .start)
-  pub upto : RunBehind rows a (on .end) count
+abbrev pub firstPartner : PairRule → ℕ → ℕ → ℕ
+firstPartner SecondPair a start = a + 1
+firstPartner Overlap a start = a + 1
+firstPartner Order a start = start

@@ -12,7 +12,7 @@ ghost use Rattle.search.specs.Lowest.{lowestIn};
 ghost use Rattle.rules.specs.LoadingRules.{pairTest};
 ghost use Rattle.visits.specs.Visits.{visitAt, block, HoldsRows, OneTruck};
 ghost use Rattle.pairrules.specs.PairRules.{disjointFootprints, footprintsInContact, ranksBefore, inOrderAt};
-ghost use Rattle.pairrules.specs.PairRules.{Each, SortedRows, wholePlan, PartnersOf};
+ghost use Rattle.pairrules.specs.PairRules.{Each, SortedRows, wholePlan, BlockOf, KnownBlock, firstPartner};
 use meaning::Limits;
 use meaning::Place;
 use rules::PairRule;
@@ -157,20 +157,30 @@ pub fn order_by(rows: &[u32], on: Block, word: usize, keys: &mut [u64], order: &
     sort(keys, order, count);
 }
 
-// The partners that the stack at place a is asked with. 17 and 23 are the same for two stacks in both orders, so of a partner before it they
-// have been asked already. 25 is asked both ways; it holds of a stack with itself, so that pair need not be left out.
-fn partners_of(rule: PairRule, rows: &[u32], a: usize, count: usize) -> Block
-    requires { ⌜ (a < count) × (16 * count ≤ length (now rows)) ⌝ }
-    ensures { λ r. ⌜ PartnersOf rule (now (rows .entry)) a count r ⌝ }
+// The stacks on the used truck of the stack at place a. Where it is on the truck that the search was at, these are known.
+fn block_at(rows: &[u32], a: usize, count: usize, on: Block) -> Block
+    requires { ⌜ (a < count) × (16 * count ≤ length (now rows)) × KnownBlock (now rows) count on ⌝ }
+    ensures { λ r. ⌜ BlockOf (now (rows .entry)) a count r ⌝ }
 {
-    let end = truck_end(rows, a, count);
+    if (on.start <= a) & (a < on.end) {
+        return on;
+    }
+    Block {
+        start: truck_start(rows, a + 1),
+        end: truck_end(rows, a, count),
+    }
+}
+
+// Where the partners begin that the stack at place a is asked with. 17 and 23 are the same for two stacks in both orders, so of a partner
+// before it they have been asked already. 25 is asked both ways; it holds of a stack with itself, so that pair need not be left out.
+fn first_partner(rule: PairRule, a: usize, on: Block) -> usize
+    requires { ⌜ a < on .end ⌝ }
+    ensures { λ r. ⌜ r ≡ firstPartner rule a (on .start) ⌝ }
+{
     match rule {
-        PairRule::SecondPair => Block { start: a + 1, end },
-        PairRule::Overlap => Block { start: a + 1, end },
-        PairRule::Order => Block {
-            start: truck_start(rows, a + 1),
-            end,
-        },
+        PairRule::SecondPair => a + 1,
+        PairRule::Overlap => a + 1,
+        PairRule::Order => on.start,
     }
 }
 
@@ -188,13 +198,13 @@ pub fn first_pair(
 {
     let count = stack_count(t, limits);
     let mut found = Found::Nothing;
+    let mut on = Block { start: 0, end: 0 };
     let mut k = 0;
     'search: while k < count {
         let a = as_index(by_number[k]);
-        let partners = partners_of(rule, rows, a, count);
-        let end = partners.end;
-        let mut b = partners.start;
-        while b < end {
+        on = block_at(rows, a, count, on);
+        let mut b = first_partner(rule, a, on);
+        while b < on.end {
             if !pair_kept(rule, t, limits, rows, a, b) {
                 found = Found::At(Place {
                     first: row_word(rows, a, row::NUMBER),
