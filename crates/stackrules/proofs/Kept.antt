@@ -1,30 +1,30 @@
--- All rules on an item, and all rules on a stack, told by tests that are joined.
+-- All rules on an item, and all rules on the stack itself, told by tests that are joined.
 use mathlib.Core.Path.{_≡_, refl, sym, _∙_}
 use mathlib.Core.Logic.{_↔_}
-use mathlib.Core.Bool.{Bool, true, _&&_}
-use mathlib.Core.List.{List, []}
+use mathlib.Core.Bool.{Bool, true, false, not, _&&_}
+use mathlib.Core.List.{List, [], _∷_}
+use Prim.Native.Nat.{ℕ}
+use borrow.Author.Tests.{not-false}
 use Rattle.meaning.specs.declared.Place.{Place}
 use Rattle.meaning.specs.Model.{Instance, Stack, Item, item}
-use Rattle.meaning.specs.Rules.{itemPlaces}
 use Rattle.meaning.proofs.Tests.{and-reads, iff-both, iff-trans}
-use Rattle.meaning.proofs.RuleKinds.{items-kept}
+use Rattle.meaning.proofs.Lists.{unless-none}
 use Rattle.search.specs.declared.Found.{Found}
 use Rattle.search.specs.declared.Found.the-variants.{Nothing}
 use Rattle.search.specs.Lowest.{lowestIn}
 use Rattle.search.proofs.Lowest.{empty-found, none-listed}
+use Rattle.rules.specs.declared.Rule.{Rule}
+use Rattle.rules.specs.declared.Rule.the-variants.{OfStacks, OfPairs, OfTrucks}
 use Rattle.rules.specs.declared.ItemRule.{ItemRule}
 use Rattle.rules.specs.declared.ItemRule.the-variants.{Plant, Product, Supplier, Day, Dock, Mixed, Turned}
 use Rattle.rules.specs.declared.StackRule.{StackRule}
 use Rattle.rules.specs.declared.StackRule.the-variants.{EachItem, Docks, TopHeavy, TooMany, Dense, Outside}
 use Rattle.rules.specs.LoadingRules.{itemTest, stackRulePlaces}
-use Rattle.stackrules.specs.StackRules.{everyItemTest, StacksKept}
+use Rattle.stackrules.specs.StackRules.{everyItemTest, OwnRulesKept, withItem}
 
 -- ---- joined tests
 both : {a b : Bool} {P Q : Type 0} → (a ≡ true) ↔ P → (b ≡ true) ↔ Q → ((a && b) ≡ true) ↔ (P × Q)
 both {a} {b} p q = iff-trans (and-reads a b) (iff-both p q)
-
-itself : {P : Type 0} → P ↔ P
-itself = ((λ p. p), (λ p. p))
 
 -- a search that finds nothing
 pub nothing-told : {found : Found} {nothing : Bool} (places : List Place) → found ≡ lowestIn places → (nothing ≡ true) ↔ (found ≡ Nothing)
@@ -36,65 +36,62 @@ module _ (i : Instance) (s : Stack) (a : Item) where
   abbrev T : ItemRule → Type 0
   T rule = itemTest rule i s a ≡ true
 
-  every-item : (everyItemTest i s a ≡ true) ↔ ((rule : ItemRule) → T rule)
-  every-item =
-      iff-trans (both (both (both (both (both (both itself itself) itself) itself) itself) itself) itself) (
-        (λ h rule.
-            let six = h .0 in
-            let five = six .0 in
-            let four = five .0 in
-            let three = four .0 in
-            let two = three .0 in
-            go rule (two .0) (two .1) (three .1) (four .1) (five .1) (six .1) (h .1)),
-        (λ f. ((((((f Plant, f Product), f Supplier), f Day), f Dock), f Mixed), f Turned)),
-      )
+  -- each test of those that are joined
+  every-item : everyItemTest i s a ≡ true → (rule : ItemRule) → T rule
+  every-item e =
+      let six = and-reads _ _ .0 e in
+      let five = and-reads _ _ .0 (six .0) in
+      let four = and-reads _ _ .0 (five .0) in
+      let three = and-reads _ _ .0 (four .0) in
+      let two = and-reads _ _ .0 (three .0) in
+      let one = and-reads _ _ .0 (two .0) in
+      go (one .0) (one .1) (two .1) (three .1) (four .1) (five .1) (six .1)
     where
-      go : (rule : ItemRule) → T Plant → T Product → T Supplier → T Day → T Dock → T Mixed → T Turned → T rule
-      go Plant p r u d k m t = p
-      go Product p r u d k m t = r
-      go Supplier p r u d k m t = u
-      go Day p r u d k m t = d
-      go Dock p r u d k m t = k
-      go Mixed p r u d k m t = m
-      go Turned p r u d k m t = t
+      go : T Plant → T Product → T Supplier → T Day → T Dock → T Mixed → T Turned → (rule : ItemRule) → T rule
+      go p r u d k m t Plant = p
+      go p r u d k m t Product = r
+      go p r u d k m t Supplier = u
+      go p r u d k m t Day = d
+      go p r u d k m t Dock = k
+      go p r u d k m t Mixed = m
+      go p r u d k m t Turned = t
 
   pub every-tested : {p r u d k m t : Bool} → p ≡ itemTest Plant i s a → r ≡ itemTest Product i s a → u ≡ itemTest Supplier i s a → d ≡ itemTest Day i s a
       → k ≡ itemTest Dock i s a → m ≡ itemTest Mixed i s a → t ≡ itemTest Turned i s a
       → ((((((p && r) && u) && d) && k) && m) && t) ≡ everyItemTest i s a
   every-tested ep er eu ed ek em et = rw (ep, er, eu, ed, ek, em, et) refl
 
--- ---- the items of some stacks
-module _ (i : Instance) (p : List Stack) where
-  every-load : (itemPlaces everyItemTest i p ≡ []) ↔ ((rule : ItemRule) → itemPlaces (itemTest rule) i p ≡ [])
-  every-load = (
-    (λ e rule. items-kept i p (itemTest rule) .1 (λ s m n k. every-item i s (item i n) .0 (items-kept i p everyItemTest .0 e s m n k) rule)),
-    (λ f. items-kept i p everyItemTest .1 (λ s m n k. every-item i s (item i n) .1 (λ rule. items-kept i p (itemTest rule) .0 (f rule) s m n k))),
-  )
-
--- ---- a stack, by six searches
-module _ (i : Instance) (p : List Stack) where
+-- ---- a stack by itself, and with an item
+module _ (i : Instance) (s : Stack) where
   abbrev None : StackRule → Type 0
-  None rule = stackRulePlaces rule i p ≡ []
+  None rule = stackRulePlaces rule i (s ∷ []) ≡ []
 
-  pub stack-kept : {docks top count density ground items : Bool} → (docks ≡ true) ↔ None Docks → (top ≡ true) ↔ None TopHeavy
-      → (count ≡ true) ↔ None TooMany → (density ≡ true) ↔ None Dense → (ground ≡ true) ↔ None Outside
-      → (items ≡ true) ↔ (itemPlaces everyItemTest i p ≡ [])
-      → ((((((docks && top) && count) && density) && ground) && items) ≡ true) ↔ StacksKept i p
-  stack-kept d t c h g l =
-      iff-trans (both (both (both (both (both d t) c) h) g) (iff-trans l (every-load i p))) (
-        (λ h.
-            let five = h .0 in
-            let four = five .0 in
+  pub own-kept : {docks top count density ground : Bool} → (docks ≡ true) ↔ None Docks → (top ≡ true) ↔ None TopHeavy → (count ≡ true) ↔ None TooMany
+      → (density ≡ true) ↔ None Dense → (ground ≡ true) ↔ None Outside → (((((docks && top) && count) && density) && ground) ≡ true) ↔ OwnRulesKept i s
+  own-kept d t c h g =
+      iff-trans (both (both (both (both d t) c) h) g) (
+        (λ k.
+            let four = k .0 in
             let three = four .0 in
             let two = three .0 in
-            record { each = λ rule. go rule (two .0) (two .1) (three .1) (four .1) (five .1) (h .1) }),
-        (λ k. (((((k .each Docks, k .each TopHeavy), k .each TooMany), k .each Dense), k .each Outside), λ rule. k .each (EachItem rule))),
+            record { docks = two .0; topHeavy = two .1; tooMany = three .1; dense = four .1; outside = k .1 }),
+        (λ k. ((((k .docks, k .topHeavy), k .tooMany), k .dense), k .outside)),
       )
-    where
-      go : (rule : StackRule) → None Docks → None TopHeavy → None TooMany → None Dense → None Outside → ((each : ItemRule) → None (EachItem each)) → None rule
-      go (EachItem rule) d t c h g l = l rule
-      go Docks d t c h g l = d
-      go TopHeavy d t c h g l = t
-      go TooMany d t c h g l = c
-      go Dense d t c h g l = h
-      go Outside d t c h g l = g
+
+  none-broken : (n : ℕ) → OwnRulesKept i s → everyItemTest i s (item i n) ≡ true → (rule : Rule) → withItem i s n rule ≡ []
+  unfolding withItem
+  none-broken n own each (OfStacks (EachItem rule)) = unless-none _ _ .1 (every-item i s (item i n) each rule)
+  none-broken n own each (OfStacks Docks) = own .docks
+  none-broken n own each (OfStacks TopHeavy) = own .topHeavy
+  none-broken n own each (OfStacks TooMany) = own .tooMany
+  none-broken n own each (OfStacks Dense) = own .dense
+  none-broken n own each (OfStacks Outside) = own .outside
+  none-broken n own each (OfPairs rule) = refl
+  none-broken n own each (OfTrucks rule) = refl
+
+  -- as the code tells it
+  pub all-kept : (n : ℕ) {own each : Bool} {s′ : Stack} → s′ ≡ s → (own ≡ true) ↔ OwnRulesKept i s → each ≡ everyItemTest i s′ (item i n)
+      → not (own && each) ≡ false → (rule : Rule) → withItem i s n rule ≡ []
+  all-kept n {own} {each} same told e kept =
+      let k = and-reads own each .0 (not-false _ kept) in
+      none-broken n (told .0 (k .0)) (rw (← same) (sym e ∙ k .1))

@@ -24,6 +24,11 @@ use Rattle.views.proofs.Bounds.{orders-bound}
 use Rattle.visits.specs.Visits.{visitOrder, visitAt, HoldsRows, rowWord, footprintAt}
 use Rattle.visits.proofs.Order.{order-within}
 use Rattle.visits.proofs.Reading.{word-is, index-within, truck-is, footprint-is}
+use Rattle.rules.specs.declared.ItemRule.{ItemRule}
+use Rattle.rules.specs.declared.StackRule.the-variants.{EachItem}
+use Rattle.rules.specs.declared.Rule.the-variants.{OfStacks}
+use Rattle.rules.specs.LoadingRules.{itemTest}
+use Rattle.stackrules.specs.StackRules.{withItem}
 use Rattle.stackrules.proofs.Docks.{docks-tested}
 
 -- a test of the code, the stack's number and an amount give the place of a rule on that stack
@@ -60,6 +65,11 @@ module _ {m : Limits} {t rows : List ℕ} (h : HoldsRows m t rows) {k : ℕ} (kn
   module _ {first : ℕ} (named : first ≡ rowWord rows k 1) where
     numbered : first ≡ number (visitAt p k)
     numbered = named ∙ word-is h k known 1 (omega arith)
+
+    pub item-is : (rule : ItemRule) (n : ℕ) {r : Found} {s : ℕ} {kept : Bool} → s ≡ rowWord rows k 0 → kept ≡ itemTest rule i (stackAt p s) (item i n)
+        → r ≡ lowestIn (onlyIf (not kept) (place first n 0)) → r ≡ lowestIn (withItem i (visitAt p k) n (OfStacks (EachItem rule)))
+    unfolding withItem
+    item-is rule n es ek er = er ∙ rw (ek, stack-same es, numbered) refl
 
     pub docks-is : {r : Found} {count truck flag low high : ℕ} → count ≡ rowWord rows k 9 → truck ≡ rowWord rows k 2 → flag ≡ TF (truckNumbered i truck)
         → low ≡ rowWord rows k 14 → high ≡ rowWord rows k 15

@@ -1,22 +1,21 @@
--- The rules on single stacks: all rules on an item at once, a stack that keeps them all, and the first one that is broken.
+-- The rules on single stacks: all rules on an item or on the stack itself at once, and the first one that is broken.
 use mathlib.Core.Path.{_≡_}
-use mathlib.Core.Bool.{Bool, true, cond, _&&_}
-use mathlib.Core.List.{List, []}
+use mathlib.Core.Bool.{Bool, true, not, cond, _&&_}
+use mathlib.Core.List.{List, [], _∷_}
 use Prim.Native.Nat.{ℕ, _+_, _-_, _≤_, _<_}
 use lib.Dec.{ltb, eqb}
 use lib.ListN.{length, getD}
-use Rattle.meaning.specs.Lists.{filter}
+use Rattle.meaning.specs.declared.Place.{Place}
+use Rattle.meaning.specs.Lists.{filter, onlyIf}
 use Rattle.meaning.specs.Places.{place}
-use Rattle.meaning.specs.Model.{Instance, Stack, Item}
+use Rattle.meaning.specs.Model.{Instance, Stack, Item, item, number}
 use Rattle.meaning.specs.Rules.{plantMatches, productCarried, supplierVisited, arrivesInWindow, docksServed, stackable, orientationKept, timesLoaded}
-use Rattle.search.specs.declared.Found.{Found}
-use Rattle.search.specs.declared.Found.the-variants.{At, Nothing}
+use Rattle.search.specs.declared.Found.the-variants.{At}
 use Rattle.search.specs.Lowest.{lowestIn, lowerPlace}
 use Rattle.rules.specs.declared.Rule.{Rule}
-use Rattle.rules.specs.declared.StackRule.{StackRule}
+use Rattle.rules.specs.declared.Rule.the-variants.{OfStacks, OfPairs, OfTrucks}
+use Rattle.rules.specs.declared.StackRule.the-variants.{EachItem, Docks, TopHeavy, TooMany, Dense, Outside}
 use Rattle.rules.specs.LoadingRules.{itemTest, stackRulePlaces, rulePlaces, onStack, ruleCount, ruleAt}
-use Rattle.stackrules.specs.declared.ItemTest.{ItemTest}
-use Rattle.stackrules.specs.declared.ItemTest.the-variants.{One, Every}
 use Rattle.stackrules.specs.declared.Breach.{Breach}
 
 -- when an item of a stack keeps every rule on items
@@ -24,18 +23,24 @@ abbrev pub everyItemTest : Instance → Stack → Item → Bool
 everyItemTest i s a =
     plantMatches i s a && productCarried i s a && supplierVisited i s a && arrivesInWindow i s a && docksServed i s a && stackable i s a && orientationKept i s a
 
--- when an item of a stack keeps what is asked of it
-abbrev pub itemAsked : ItemTest → Instance → Stack → Item → Bool
-itemAsked (One rule) i s a = itemTest rule i s a
-itemAsked Every i s a = everyItemTest i s a
+-- a stack that keeps every rule on the stack itself
+pub record OwnRulesKept (i : Instance) (s : Stack) : Type 0 where
+  pub docks : stackRulePlaces Docks i (s ∷ []) ≡ []
+  pub topHeavy : stackRulePlaces TopHeavy i (s ∷ []) ≡ []
+  pub tooMany : stackRulePlaces TooMany i (s ∷ []) ≡ []
+  pub dense : stackRulePlaces Dense i (s ∷ []) ≡ []
+  pub outside : stackRulePlaces Outside i (s ∷ []) ≡ []
 
--- stacks that keep every rule on stacks
-pub record StacksKept (i : Instance) (p : List Stack) : Type 0 where
-  pub each : (rule : StackRule) → stackRulePlaces rule i p ≡ []
-
--- the lowest place where a rule is broken, if it is a rule on stacks
-abbrev pub foundOnStacks : Rule → Instance → List Stack → Found
-foundOnStacks rule i p = cond (onStack rule) (lowestIn (rulePlaces rule i p)) Nothing
+-- where a stack breaks a rule on itself, or with its item n a rule on items
+unfoldable pub withItem : Instance → Stack → ℕ → Rule → List Place
+withItem i s n (OfStacks (EachItem rule)) = onlyIf (not (itemTest rule i s (item i n))) (place (number s) n 0)
+withItem i s n (OfStacks Docks) = stackRulePlaces Docks i (s ∷ [])
+withItem i s n (OfStacks TopHeavy) = stackRulePlaces TopHeavy i (s ∷ [])
+withItem i s n (OfStacks TooMany) = stackRulePlaces TooMany i (s ∷ [])
+withItem i s n (OfStacks Dense) = stackRulePlaces Dense i (s ∷ [])
+withItem i s n (OfStacks Outside) = stackRulePlaces Outside i (s ∷ [])
+withItem i s n (OfPairs rule) = []
+withItem i s n (OfTrucks rule) = []
 
 -- ---- the first rule on stacks that is broken
 -- none is
@@ -47,12 +52,16 @@ abbrev pub soonerOf : Breach → Breach → Breach
 soonerOf a b =
     cond (ltb (a .rank) (b .rank)) a (cond (ltb (b .rank) (a .rank)) b (record { rank = a .rank; place = lowerPlace (a .place) (b .place) }))
 
--- the breach is that of the first rule on stacks that these stacks break, with its lowest place; where they keep all, it is none
-pub record FirstOnStacks (i : Instance) (p : List Stack) (r : Breach) : Type 0 where
+-- the breach is that of the first rule on stacks that has places, with the lowest of them; where none has any, it is none
+pub record FirstOf (places : Rule → List Place) (r : Breach) : Type 0 where
   pub upto : r .rank ≤ ruleCount
-  pub kept : (k : ℕ) → k < r .rank → onStack (ruleAt k) ≡ true → rulePlaces (ruleAt k) i p ≡ []
-  pub broken : r .rank < ruleCount → (onStack (ruleAt (r .rank)) ≡ true) × (At (r .place) ≡ lowestIn (rulePlaces (ruleAt (r .rank)) i p))
+  pub kept : (k : ℕ) → k < r .rank → onStack (ruleAt k) ≡ true → places (ruleAt k) ≡ []
+  pub broken : r .rank < ruleCount → (onStack (ruleAt (r .rank)) ≡ true) × (At (r .place) ≡ lowestIn (places (ruleAt (r .rank))))
   pub none : r .rank ≡ ruleCount → r .place ≡ place 0 0 0
+
+-- it is that of the first rule on stacks that these stacks break
+abbrev pub FirstOnStacks : Instance → List Stack → Breach → Type 0
+FirstOnStacks i p r = FirstOf (λ rule. rulePlaces rule i p) r
 
 -- ---- counting
 -- the words have a count for each entry of a load, with room for all entries besides what was counted before

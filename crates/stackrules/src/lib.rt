@@ -10,13 +10,14 @@ ghost use lib.ListN.{length, getD};
 ghost use Rattle.meaning.specs.Model.{item};
 ghost use Rattle.meaning.specs.Measures.{bottom};
 ghost use Rattle.meaning.specs.Table.{instanceIn, stacksIn};
-ghost use Rattle.meaning.specs.Rules.{itemPlaces, notOnce, plantMatches, productCarried, supplierVisited, arrivesInWindow, docksServed};
+ghost use Rattle.meaning.specs.Rules.{notOnce, plantMatches, productCarried, supplierVisited, arrivesInWindow, docksServed};
 ghost use Rattle.meaning.specs.Rules.{stackable, orientationKept};
 ghost use Rattle.table.specs.Filled.{Filled, stackAt, ItemNumber};
 ghost use Rattle.search.specs.Lowest.{lowestIn};
+ghost use Rattle.rules.specs.declared.Rule.the-variants.{OfStacks};
 ghost use Rattle.rules.specs.LoadingRules.{itemTest, stackRulePlaces, ruleCount, ruleAt};
 ghost use Rattle.visits.specs.Visits.{visitAt, HoldsRows};
-ghost use Rattle.stackrules.specs.StackRules.{everyItemTest, itemAsked, StacksKept, foundOnStacks, noBreach, soonerOf, FirstOnStacks};
+ghost use Rattle.stackrules.specs.StackRules.{everyItemTest, OwnRulesKept, withItem, noBreach, soonerOf, FirstOf, FirstOnStacks};
 ghost use Rattle.stackrules.specs.StackRules.{Countable, Counted, Tally};
 use meaning::Limits;
 use meaning::Place;
@@ -239,45 +240,7 @@ fn item_keeps_rules(t: &[u32], limits: Limits, s: usize, n: u32) -> bool
         & orientation_kept(t, limits, s, n)
 }
 
-// What is asked of an item: one rule, or every rule on items at once.
-enum ItemTest {
-    One(ItemRule),
-    Every,
-}
-
-// Whether an item of a stack keeps what is asked of it.
-fn item_passes(test: ItemTest, t: &[u32], limits: Limits, s: usize, n: u32) -> bool
-    requires { ⌜ Filled limits (now t) × (s < length (stacksIn limits (now t))) × ItemNumber (instanceIn limits (now t)) n ⌝ }
-    ensures { λ r. ⌜ r ≡ itemAsked test (instanceIn limits (now (t .entry))) (stackAt (stacksIn limits (now (t .entry))) s)
-        (item (instanceIn limits (now (t .entry))) n) ⌝ }
-{
-    match test {
-        ItemTest::One(rule) => item_kept(rule, t, limits, s, n),
-        ItemTest::Every => item_keeps_rules(t, limits, s, n),
-    }
-}
-
-// The lowest item of a stack that does not keep what is asked of it.
-fn lowest_item(test: ItemTest, t: &[u32], limits: Limits, s: usize) -> Found
-    requires { ⌜ Filled limits (now t) × (s < length (stacksIn limits (now t))) ⌝ }
-    ensures { λ r. ⌜ r ≡ lowestIn (itemPlaces (itemAsked test) (instanceIn limits (now (t .entry)))
-        ((stackAt (stacksIn limits (now (t .entry))) s) ∷ [])) ⌝ }
-{
-    let number = stack_field(t, limits, s, NUMBER);
-    let items = load(t, limits, s);
-    let mut found = Found::Nothing;
-    let mut j = items.len();
-    while 0 < j {
-        j -= 1;
-        let n = items[j];
-        let kept = item_passes(test, t, limits, s, n);
-        found = lower_of(place_if(!kept, number, n, 0), found);
-    }
-    found
-}
-
-// ---- the rules on each stack: those on its items, 16 and 19 to 22. Each function answers where the stack at place k of the rows
-// breaks its rule
+// ---- the rules on the stack itself: 16 and 19 to 22. Each function answers where the stack at place k of the rows breaks its rule
 
 // 16 docks, S2 and S3: one plant dock; where the truck's flag is set also two, if they are consecutive.
 fn docks_place(t: &[u32], limits: Limits, rows: &[u32], k: usize) -> Found
@@ -374,37 +337,20 @@ fn outside_place(t: &[u32], limits: Limits, rows: &[u32], k: usize) -> Found
     place_if(!inside, number, side, 0)
 }
 
-// Where the stack at place k breaks a rule on stacks.
-fn stack_place(rule: StackRule, t: &[u32], limits: Limits, rows: &[u32], k: usize) -> Found
+// Whether the stack at place k keeps every rule on the stack itself.
+fn own_rules_kept(t: &[u32], limits: Limits, rows: &[u32], k: usize) -> bool
     requires { ⌜ HoldsRows limits (now t) (now rows) × (k < length (stacksIn limits (now t))) ⌝ }
-    ensures { λ r. ⌜ r ≡ lowestIn (stackRulePlaces rule (instanceIn limits (now (t .entry)))
-        (visitAt (stacksIn limits (now (t .entry))) k ∷ [])) ⌝ }
-{
-    match rule {
-        StackRule::EachItem(each) => lowest_item(ItemTest::One(each), t, limits, stack_at(rows, k)),
-        StackRule::Docks => docks_place(t, limits, rows, k),
-        StackRule::TopHeavy => top_heavy_place(t, limits, rows, k),
-        StackRule::TooMany => too_many_place(t, limits, rows, k),
-        StackRule::Dense => dense_place(t, limits, rows, k),
-        StackRule::Outside => outside_place(t, limits, rows, k),
-    }
-}
-
-// ---- the first rule on stacks that is broken
-
-// Whether the stack at place k keeps every rule on stacks. Most stacks do, and then no rule need be asked by itself.
-fn stack_keeps_rules(t: &[u32], limits: Limits, rows: &[u32], k: usize) -> bool
-    requires { ⌜ HoldsRows limits (now t) (now rows) × (k < length (stacksIn limits (now t))) ⌝ }
-    ensures { λ r. ⌜ (r ≡ true) ↔ StacksKept (instanceIn limits (now (t .entry))) (visitAt (stacksIn limits (now (t .entry))) k ∷ []) ⌝ }
+    ensures { λ r. ⌜ (r ≡ true) ↔ OwnRulesKept (instanceIn limits (now (t .entry))) (visitAt (stacksIn limits (now (t .entry))) k) ⌝ }
 {
     let docks = is_nothing(docks_place(t, limits, rows, k));
     let top = is_nothing(top_heavy_place(t, limits, rows, k));
     let count = is_nothing(too_many_place(t, limits, rows, k));
     let density = is_nothing(dense_place(t, limits, rows, k));
     let ground = is_nothing(outside_place(t, limits, rows, k));
-    let items = is_nothing(lowest_item(ItemTest::Every, t, limits, stack_at(rows, k)));
-    ((((docks & top) & count) & density) & ground) & items
+    (((docks & top) & count) & density) & ground
 }
+
+// ---- the first rule on stacks that is broken
 
 // A broken rule by its rank, and a place where it is broken. Where no rule is, the rank is RULES and the place is zeros.
 pub struct Breach {
@@ -444,31 +390,45 @@ fn sooner(a: Breach, b: Breach) -> Breach
     }
 }
 
-// Where the stack at place k breaks the rule of a rank, if that is a rule on stacks.
-fn rank_place(rank: usize, t: &[u32], limits: Limits, rows: &[u32], k: usize) -> Found
-    requires { ⌜ HoldsRows limits (now t) (now rows) × (k < length (stacksIn limits (now t))) × (rank < ruleCount) ⌝ }
-    ensures { λ r. ⌜ r ≡ foundOnStacks (ruleAt rank) (instanceIn limits (now (t .entry)))
-        (visitAt (stacksIn limits (now (t .entry))) k ∷ []) ⌝ }
+// Where the stack at place k breaks a rule on itself, or with its item n a rule on items.
+fn stack_place(rule: StackRule, t: &[u32], limits: Limits, rows: &[u32], k: usize, n: u32) -> Found
+    requires { ⌜ HoldsRows limits (now t) (now rows) × (k < length (stacksIn limits (now t))) × ItemNumber (instanceIn limits (now t)) n ⌝ }
+    ensures { λ r. ⌜ r ≡ lowestIn (withItem (instanceIn limits (now (t .entry))) (visitAt (stacksIn limits (now (t .entry))) k) n (OfStacks rule)) ⌝ }
+{
+    match rule {
+        StackRule::EachItem(each) => {
+            let kept = item_kept(each, t, limits, stack_at(rows, k), n);
+            place_if(!kept, row_word(rows, k, row::NUMBER), n, 0)
+        }
+        StackRule::Docks => docks_place(t, limits, rows, k),
+        StackRule::TopHeavy => top_heavy_place(t, limits, rows, k),
+        StackRule::TooMany => too_many_place(t, limits, rows, k),
+        StackRule::Dense => dense_place(t, limits, rows, k),
+        StackRule::Outside => outside_place(t, limits, rows, k),
+    }
+}
+
+// The same for the rule of a rank; a rule on pairs or on trucks has no place here.
+fn rank_place(rank: usize, t: &[u32], limits: Limits, rows: &[u32], k: usize, n: u32) -> Found
+    requires { ⌜ HoldsRows limits (now t) (now rows) × (k < length (stacksIn limits (now t))) × ItemNumber (instanceIn limits (now t)) n × (rank < ruleCount) ⌝ }
+    ensures { λ r. ⌜ r ≡ lowestIn (withItem (instanceIn limits (now (t .entry))) (visitAt (stacksIn limits (now (t .entry))) k) n (ruleAt rank)) ⌝ }
 {
     let rule = rule_at(rank);
     match rule {
-        Rule::OfStacks(each) => stack_place(each, t, limits, rows, k),
+        Rule::OfStacks(each) => stack_place(each, t, limits, rows, k, n),
         Rule::OfPairs(_) => Found::Nothing,
         Rule::OfTrucks(_) => Found::Nothing,
     }
 }
 
-// The first rule on stacks that the stack at place k breaks, with its lowest place there.
-fn stack_breach(t: &[u32], limits: Limits, rows: &[u32], k: usize) -> Breach
-    requires { ⌜ HoldsRows limits (now t) (now rows) × (k < length (stacksIn limits (now t))) ⌝ }
-    ensures { λ r. ⌜ FirstOnStacks (instanceIn limits (now (t .entry))) (visitAt (stacksIn limits (now (t .entry))) k ∷ []) r ⌝ }
+// The first rule that the stack at place k breaks by itself or with its item n.
+fn breach_with_item(t: &[u32], limits: Limits, rows: &[u32], k: usize, n: u32) -> Breach
+    requires { ⌜ HoldsRows limits (now t) (now rows) × (k < length (stacksIn limits (now t))) × ItemNumber (instanceIn limits (now t)) n ⌝ }
+    ensures { λ r. ⌜ FirstOf (withItem (instanceIn limits (now (t .entry))) (visitAt (stacksIn limits (now (t .entry))) k) n) r ⌝ }
 {
-    if stack_keeps_rules(t, limits, rows, k) {
-        return no_breach();
-    }
     let mut rank = 0;
     while rank < RULES {
-        let found = rank_place(rank, t, limits, rows, k);
+        let found = rank_place(rank, t, limits, rows, k, n);
         match found {
             Found::At(place) => return Breach { rank, place },
             Found::Nothing => {}
@@ -476,6 +436,27 @@ fn stack_breach(t: &[u32], limits: Limits, rows: &[u32], k: usize) -> Breach
         rank += 1;
     }
     no_breach()
+}
+
+// The first rule on stacks that the stack at place k breaks, with its lowest place there. No rule is asked by itself where all are kept,
+// as they mostly are.
+fn stack_breach(t: &[u32], limits: Limits, rows: &[u32], k: usize) -> Breach
+    requires { ⌜ HoldsRows limits (now t) (now rows) × (k < length (stacksIn limits (now t))) ⌝ }
+    ensures { λ r. ⌜ FirstOnStacks (instanceIn limits (now (t .entry))) (visitAt (stacksIn limits (now (t .entry))) k ∷ []) r ⌝ }
+{
+    let own = own_rules_kept(t, limits, rows, k);
+    let s = stack_at(rows, k);
+    let items = load(t, limits, s);
+    let mut first = no_breach();
+    let mut j = items.len();
+    while 0 < j {
+        j -= 1;
+        let n = items[j];
+        if !(own & item_keeps_rules(t, limits, s, n)) {
+            first = sooner(breach_with_item(t, limits, rows, k, n), first);
+        }
+    }
+    first
 }
 
 // The first rule on stacks that the plan breaks, with its lowest place.

@@ -1,29 +1,47 @@
 -- `stackrules::first_on_stacks`: the breach so far is that of the stacks visited so far, in the end of all.
+use mathlib.Core.List.{[], _∷_}
+use Prim.Native.Nat.{_-_}
+use native.Mathlib.Omega.{arith}
 use borrow.Author.Needs.{needs}
+use Rattle.meaning.specs.Model.{Stack}
 use Rattle.meaning.specs.Table.{instanceIn, stacksIn}
-use Rattle.stackrules.proofs.First.{FirstDown, down-none, down-inside, down-more, down-end}
+use Rattle.table.specs.Filled.{noStack}
+use Rattle.rules.specs.LoadingRules.{rulePlaces}
+use Rattle.visits.specs.Visits.{visited}
+use Rattle.visits.proofs.Order.{visited-length, visited-at}
+use Rattle.stackrules.proofs.First.{FirstFrom, from-none, from-more, from-end, first-same, lowest-visited}
 use Rattle.stackrules.proofs.first_on_stacks.Statement.{statement}
 use Rattle.stackrules.proofs.first_on_stacks.Tie as tie
 
 abbrev Inv-loop : tie.InvT-loop
-Inv-loop t limits rows first₀ k₀ first k = FirstDown (instanceIn limits t) (stacksIn limits t) k first
+Inv-loop t limits rows first₀ k₀ first k = FirstFrom (λ (s : Stack) rule. rulePlaces rule (instanceIn limits t) (s ∷ [])) (visited (stacksIn limits t)) k first
 
 abbrev μ-loop : tie.MeasureT-loop
 μ-loop t limits rows first₀ k₀ first k = k
 
 loop-holds : tie.Need-loop-holds Inv-loop μ-loop
-loop-holds c = down-none (c .stack-count .ensures .0) (c .before .no-breach .ensures)
+loop-holds c =
+    let a = c .before .before .before .before .args in
+    from-none (rw (visited-length (stacksIn (a .limits) (a .t .now))) (c .stack-count .ensures .0)) (c .before .no-breach .ensures)
 
 stack-breach-requires : tie.Need-stack-breach-requires Inv-loop μ-loop
 stack-breach-requires c κs =
     let loop = c .before in
-    (loop .before .before .before .before .before .pre, down-inside (loop .loop .inv) (c .loop-test .taken))
+    let start = loop .before .before .before .before .before in
+    (start .pre, omega (arith, loop .loop .inv .upto, c .loop-test .taken, visited-length (stacksIn (start .args .limits) (start .args .t .now))))
 
 loop-again : tie.Need-loop-again Inv-loop μ-loop
 loop-again c =
     let breach = c .before in
     let test = breach .before in
-    down-more (test .before .loop .inv) (test .loop-test .taken) (breach .stack-breach .ensures) (c .sooner .ensures)
+    let loop = test .before in
+    let a = loop .before .before .before .before .before .args in
+    let p = stacksIn (a .limits) (a .t .now) in
+    let at = visited-at p (loop .loop .k - 1) (omega (arith, loop .loop .inv .upto, test .loop-test .taken, visited-length p)) in
+    from-more noStack (loop .loop .inv) (test .loop-test .taken) (rw at (breach .stack-breach .ensures)) (c .sooner .ensures)
+
+returns : tie.Need-returns Inv-loop μ-loop
+returns c = first-same (from-end (c .before .loop .inv) (c .loop-test .left)) (λ rule on. lowest-visited _ rule on _)
 
 pub first-on-stacks-spec : {M : Type 1} → statement M
 first-on-stacks-spec =
@@ -39,4 +57,4 @@ first-on-stacks-spec =
     (λ c κs. search needs)
     (λ c. search needs)
     loop-again
-    (λ c. down-end (c .before .loop .inv) (c .loop-test .left)))
+    returns)

@@ -1,36 +1,66 @@
--- `stackrules::stack_breach`: a stack that keeps every rule breaks none; for another the rules are asked one after another.
+-- `stackrules::stack_breach`: the breach so far is that of the items from the top down, in the end of the whole stack.
+use mathlib.Core.Path.{refl}
 use Prim.Native.Nat.{_-_}
+use native.Mathlib.Omega.{arith}
 use borrow.Author.Needs.{needs}
 use Rattle.meaning.specs.Table.{instanceIn, stacksIn}
-use mathlib.Core.List.{[], _∷_}
-use Rattle.rules.specs.LoadingRules.{ruleCount}
 use Rattle.visits.specs.Visits.{visitAt}
-use Rattle.stackrules.proofs.First.{KeptTo, kept-none, kept-more, kept-broken, kept-all, kept-each}
+use Rattle.stackrules.specs.StackRules.{withItem}
+use Rattle.stackrules.proofs.Items.{load-places}
+use Rattle.stackrules.proofs.Stacks.{stack-there, stack-same}
+use Rattle.stackrules.proofs.Kept.{all-kept}
+use Rattle.stackrules.proofs.First.{FirstFrom, from-none, from-more, from-kept, from-end, first-same}
 use Rattle.stackrules.proofs.stack_breach.Statement.{statement}
 use Rattle.stackrules.proofs.stack_breach.Tie as tie
 
 abbrev Inv-loop : tie.InvT-loop
-Inv-loop t limits rows k rank₀ rank = KeptTo (instanceIn limits t) (visitAt (stacksIn limits t) k ∷ []) rank
+Inv-loop t limits rows k own s items first₀ j₀ first j = FirstFrom (withItem (instanceIn limits t) (visitAt (stacksIn limits t) k)) items j first
 
 abbrev μ-loop : tie.MeasureT-loop
-μ-loop t limits rows k rank₀ rank = ruleCount - rank
+μ-loop t limits rows k own s items first₀ j₀ first j = j
 
-returns : tie.Need-returns Inv-loop μ-loop
-returns c = let test = c .before in kept-each (test .before .stack-keeps-rules .ensures .0 (test .if1 .taken)) (c .no-breach .ensures)
+item-keeps-rules-requires : tie.Need-item-keeps-rules-requires Inv-loop μ-loop
+item-keeps-rules-requires c κs =
+    let loop = c .before .before in
+    let items = loop .before .before in
+    let place = items .before in
+    let start = place .before .before .before .before in
+    (start .pre .0 .filled, stack-there (start .pre .0) (start .pre .1) (place .stack-at .ensures), items .load .ensures .1 .entries (loop .loop .j - 1) (omega (arith, loop .loop .inv .upto, c .before .loop-test .taken)))
 
-returns-2 : tie.Need-returns-2 Inv-loop μ-loop
-returns-2 c =
-    let found = c .before in
-    let asked = found .before .before in
-    kept-broken (asked .before .before .loop .inv) (asked .before .loop-test .taken) (asked .rank-place .ensures) (found .found .given .1)
+breach-with-item-requires : tie.Need-breach-with-item-requires Inv-loop μ-loop
+breach-with-item-requires c κs =
+    let test = c .before .before .before in
+    let loop = test .before in
+    let items = loop .before .before in
+    let start = items .before .before .before .before .before in
+    (start .pre .0, start .pre .1, items .load .ensures .1 .entries (loop .loop .j - 1) (omega (arith, loop .loop .inv .upto, test .loop-test .taken)))
 
 loop-again : tie.Need-loop-again Inv-loop μ-loop
 loop-again c =
-    let asked = c .before .before in
-    kept-more (asked .before .before .loop .inv) (asked .before .loop-test .taken) (asked .rank-place .ensures) (c .enum-told .given .1)
+    let breach = c .before in
+    let test = breach .before .before .before .before in
+    from-more 0 (test .before .loop .inv) (test .loop-test .taken) (breach .breach-with-item .ensures) (c .sooner .ensures)
 
-returns-3 : tie.Need-returns-3 Inv-loop μ-loop
-returns-3 c = let end = c .before in kept-all (end .before .loop .inv) (end .loop-test .left) (c .no-breach2 .ensures)
+loop-again-2 : tie.Need-loop-again-2 Inv-loop μ-loop
+loop-again-2 c =
+    let kept = c .before in
+    let test = kept .before .before in
+    let loop = test .before in
+    let place = loop .before .before .before in
+    let own = place .before in
+    let start = own .before .before .before in
+    let same = stack-same (start .pre .0) (start .pre .1) (place .stack-at .ensures) in
+    from-kept 0 (loop .loop .inv) (test .loop-test .taken)
+    (all-kept _ _ _ same (own .own-rules-kept .ensures) (kept .item-keeps-rules .ensures) (c .if1 .left))
+
+returns : tie.Need-returns Inv-loop μ-loop
+returns c =
+    let loop = c .before in
+    let items = loop .before .before in
+    let place = items .before in
+    let start = place .before .before .before .before in
+    let same = stack-same (start .pre .0) (start .pre .1) (place .stack-at .ensures) in
+    first-same (from-end (loop .loop .inv) (c .loop-test .left)) (load-places _ _ (rw (← same) (items .load .ensures .0)) (items .load .ensures .1 .some))
 
 pub stack-breach-spec : {M : Type 1} → statement M
 stack-breach-spec =
@@ -40,14 +70,17 @@ stack-breach-spec =
     μ-loop
     (λ c κs. search needs)
     (λ c κs. search needs)
-    returns
-    (λ c. kept-none)
+    (λ c κs. search (needs, stack-there))
     (λ c κs. search needs)
+    (λ c. from-none refl (c .no-breach .ensures))
     (λ c. search needs)
-    returns-2
     (λ c. search needs)
-    (λ c. search needs)
+    (λ c. omega (arith, c .before .before .loop .inv .upto))
+    item-keeps-rules-requires
+    breach-with-item-requires
+    (λ c κs. search needs)
     (λ c. search needs)
     loop-again
-    (λ c κs. search needs)
-    returns-3)
+    (λ c. search needs)
+    loop-again-2
+    returns)
