@@ -16,6 +16,7 @@ use Rattle.meaning.specs.Rules.{densityWithin, inside, exceededSide}
 use Rattle.meaning.proofs.Tests.{true≢false, by-less}
 use Rattle.meaning.proofs.Lists.{drop-back}
 use Rattle.meaning.proofs.Permute.{perm-same, flatMap-equal}
+use Rattle.table.specs.Filled.{ItemNumber, LoadOfItems}
 use Rattle.search.specs.declared.Found.{Found}
 use Rattle.search.specs.declared.Found.the-variants.{At, Nothing}
 use Rattle.search.specs.Lowest.{lowestIn, lowerPlace, lowerFound}
@@ -26,7 +27,7 @@ use Rattle.rules.specs.declared.StackRule.{StackRule}
 use Rattle.rules.specs.declared.StackRule.the-variants.{EachItem, Docks, TopHeavy, TooMany, Dense, Outside}
 use Rattle.rules.specs.LoadingRules.{stackRulePlaces, rulePlaces, onStack, ruleCount, ruleAt}
 use Rattle.visits.specs.Visits.{visited}
-use Rattle.visits.proofs.Order.{visited-perm}
+use Rattle.visits.proofs.Order.{visited-length, visited-perm}
 use Rattle.stackrules.specs.declared.Breach.{Breach}
 use Rattle.stackrules.specs.StackRules.{noBreach, soonerOf, FirstOf}
 
@@ -179,3 +180,11 @@ module _ {A : Type 0} {g : A → Rule → List Place} {l : List A} {j : ℕ} whe
 
   pub from-end : {r : Breach} → FirstFrom g l j r → j ≤ 0 → FirstOf (λ rule. flatMap (λ (a : A). g a rule) l) r
   from-end {r} h end = let all : j ≡ 0 = omega arith in rw all at (h .is)
+
+-- the next element is an item, or a stack
+module _ {j : ℕ} {r : Breach} where
+  pub entry-known : {i : Instance} {load : List ℕ} {g : ℕ → Rule → List Place} → LoadOfItems i load → FirstFrom g load j r → 0 < j → ItemNumber i (getD load (j - 1) 0)
+  entry-known items h some = items .entries (j - 1) (omega (arith, h .upto))
+
+  pub visit-known : (p : List Stack) {g : Stack → Rule → List Place} → FirstFrom g (visited p) j r → 0 < j → j - 1 < length p
+  visit-known p h some = omega (arith, h .upto, visited-length p)

@@ -18,17 +18,13 @@ use Rattle.meaning.proofs.Permute.{Same}
 use Rattle.meaning.proofs.Orders.{order-in}
 use Rattle.search.specs.Lowest.{lowestIn}
 use Rattle.search.specs.declared.Found.{Found}
-use Rattle.search.specs.declared.Found.the-variants.{At, Nothing}
+use Rattle.search.specs.declared.Found.the-variants.{At}
 use Rattle.search.proofs.Lowest.{lowest-none, lowest-members}
 use Rattle.rules.specs.declared.Rule.{Rule}
 use Rattle.rules.specs.declared.Rule.the-variants.{OfStacks, OfPairs, OfTrucks}
 use Rattle.rules.specs.declared.StackRule.the-variants.{EachItem, Docks, TopHeavy, TooMany, Dense, Outside}
 use Rattle.rules.specs.LoadingRules.{rulePlaces, onStack}
 use Rattle.stackrules.specs.StackRules.{withItem}
-
--- nothing is no place
-never : {q : Place} → At q ≡ Nothing → ⊥
-never e = let z : _≡_ {A = ℕ} 0 1 = cc in omega arith
 
 -- an identifier has a loading order exactly when it is listed
 pub order-listed : (l : List ℕ) (n : ℕ) {l′ : List ℕ} {n′ k : ℕ} → l′ ≡ l → n′ ≡ n → k ≡ orderIn l′ n′ → leb 1 k ≡ listed n l
@@ -66,5 +62,5 @@ pub found-on-stack : (i : Instance) (s : Stack) (n : ℕ) (rule : Rule) {found :
     → onStack rule ≡ true
 unfolding withItem
 found-on-stack i s n (OfStacks rule) e f = refl
-found-on-stack i s n (OfPairs rule) e f = absurd (never (sym f ∙ e ∙ lowest-none))
-found-on-stack i s n (OfTrucks rule) e f = absurd (never (sym f ∙ e ∙ lowest-none))
+found-on-stack i s n (OfPairs rule) e f = let none = e ∙ lowest-none in let z : _≡_ {A = ℕ} 0 1 = cc in absurd (omega arith)
+found-on-stack i s n (OfTrucks rule) e f = let none = e ∙ lowest-none in let z : _≡_ {A = ℕ} 0 1 = cc in absurd (omega arith)

@@ -1,7 +1,6 @@
 -- `stackrules::first_on_stacks`: the breach so far is that of the stacks visited so far, in the end of all.
 use mathlib.Core.List.{[], _∷_}
 use Prim.Native.Nat.{_-_}
-use native.Mathlib.Omega.{arith}
 use borrow.Author.Needs.{needs}
 use Rattle.meaning.specs.Model.{Stack}
 use Rattle.meaning.specs.Table.{instanceIn, stacksIn}
@@ -9,7 +8,7 @@ use Rattle.table.specs.Filled.{noStack}
 use Rattle.rules.specs.LoadingRules.{rulePlaces}
 use Rattle.visits.specs.Visits.{visited}
 use Rattle.visits.proofs.Order.{visited-length, visited-at}
-use Rattle.stackrules.proofs.First.{FirstFrom, from-none, from-more, from-end, first-same, lowest-visited}
+use Rattle.stackrules.proofs.First.{FirstFrom, from-none, from-more, from-end, first-same, lowest-visited, visit-known}
 use Rattle.stackrules.proofs.first_on_stacks.Statement.{statement}
 use Rattle.stackrules.proofs.first_on_stacks.Tie as tie
 
@@ -24,12 +23,6 @@ loop-holds c =
     let a = c .before .before .before .before .args in
     from-none (rw (visited-length (stacksIn (a .limits) (a .t .now))) (c .stack-count .ensures .0)) (c .before .no-breach .ensures)
 
-stack-breach-requires : tie.Need-stack-breach-requires Inv-loop μ-loop
-stack-breach-requires c κs =
-    let loop = c .before in
-    let start = loop .before .before .before .before .before in
-    (start .pre, omega (arith, loop .loop .inv .upto, c .loop-test .taken, visited-length (stacksIn (start .args .limits) (start .args .t .now))))
-
 loop-again : tie.Need-loop-again Inv-loop μ-loop
 loop-again c =
     let breach = c .before in
@@ -37,7 +30,7 @@ loop-again c =
     let loop = test .before in
     let a = loop .before .before .before .before .before .args in
     let p = stacksIn (a .limits) (a .t .now) in
-    let at = visited-at p (loop .loop .k - 1) (omega (arith, loop .loop .inv .upto, test .loop-test .taken, visited-length p)) in
+    let at = visited-at p (loop .loop .k - 1) (visit-known p (loop .loop .inv) (test .loop-test .taken)) in
     from-more noStack (loop .loop .inv) (test .loop-test .taken) (rw at (breach .stack-breach .ensures)) (c .sooner .ensures)
 
 returns : tie.Need-returns Inv-loop μ-loop
@@ -53,7 +46,7 @@ first-on-stacks-spec =
     (λ c κs. search needs)
     loop-holds
     (λ c. search needs)
-    stack-breach-requires
+    (λ c κs. search (needs, visit-known))
     (λ c κs. search needs)
     (λ c. search needs)
     loop-again

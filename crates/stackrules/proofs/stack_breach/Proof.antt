@@ -1,6 +1,5 @@
 -- `stackrules::stack_breach`: the breach so far is that of the items from the top down, in the end of the whole stack.
 use mathlib.Core.Path.{refl}
-use Prim.Native.Nat.{_-_}
 use native.Mathlib.Omega.{arith}
 use borrow.Author.Needs.{needs}
 use Rattle.meaning.specs.Table.{instanceIn, stacksIn}
@@ -9,7 +8,7 @@ use Rattle.stackrules.specs.StackRules.{withItem}
 use Rattle.stackrules.proofs.Items.{load-places}
 use Rattle.stackrules.proofs.Stacks.{stack-there, stack-same}
 use Rattle.stackrules.proofs.Kept.{all-kept}
-use Rattle.stackrules.proofs.First.{FirstFrom, from-none, from-more, from-kept, from-end, first-same}
+use Rattle.stackrules.proofs.First.{FirstFrom, from-none, from-more, from-kept, from-end, first-same, entry-known}
 use Rattle.stackrules.proofs.stack_breach.Statement.{statement}
 use Rattle.stackrules.proofs.stack_breach.Tie as tie
 
@@ -18,22 +17,6 @@ Inv-loop t limits rows k own s items first₀ j₀ first j = FirstFrom (withItem
 
 abbrev μ-loop : tie.MeasureT-loop
 μ-loop t limits rows k own s items first₀ j₀ first j = j
-
-item-keeps-rules-requires : tie.Need-item-keeps-rules-requires Inv-loop μ-loop
-item-keeps-rules-requires c κs =
-    let loop = c .before .before in
-    let items = loop .before .before in
-    let place = items .before in
-    let start = place .before .before .before .before in
-    (start .pre .0 .filled, stack-there (start .pre .0) (start .pre .1) (place .stack-at .ensures), items .load .ensures .1 .entries (loop .loop .j - 1) (omega (arith, loop .loop .inv .upto, c .before .loop-test .taken)))
-
-breach-with-item-requires : tie.Need-breach-with-item-requires Inv-loop μ-loop
-breach-with-item-requires c κs =
-    let test = c .before .before .before in
-    let loop = test .before in
-    let items = loop .before .before in
-    let start = items .before .before .before .before .before in
-    (start .pre .0, start .pre .1, items .load .ensures .1 .entries (loop .loop .j - 1) (omega (arith, loop .loop .inv .upto, test .loop-test .taken)))
 
 loop-again : tie.Need-loop-again Inv-loop μ-loop
 loop-again c =
@@ -76,8 +59,8 @@ stack-breach-spec =
     (λ c. search needs)
     (λ c. search needs)
     (λ c. omega (arith, c .before .before .loop .inv .upto))
-    item-keeps-rules-requires
-    breach-with-item-requires
+    (λ c κs. search (needs, stack-there, entry-known))
+    (λ c κs. search (needs, entry-known))
     (λ c κs. search needs)
     (λ c. search needs)
     loop-again
