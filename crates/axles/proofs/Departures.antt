@@ -19,9 +19,9 @@ use Rattle.search.specs.declared.Found.{Found}
 use Rattle.search.specs.declared.Found.the-variants.{Nothing}
 use Rattle.search.specs.Lowest.{lowestIn, lowerFound}
 use Rattle.search.proofs.Lowest.{LowestFrom, from-start, from-more, from-end}
-use Rattle.visits.specs.Visits.{visitAt, block, HoldsRows, OneTruck}
-use Rattle.visits.specs.declared.Block.{Block}
-use Rattle.visits.proofs.UsedTrucks.{block-length, block-used, used-one, all-on}
+use Rattle.manifest.specs.Manifest.{manifestAt, block, HoldsRows, OneTruck}
+use Rattle.manifest.specs.declared.Block.{Block}
+use Rattle.manifest.proofs.UsedTrucks.{block-length, block-used, used-one, all-on}
 use Rattle.axles.specs.declared.AxleData.{AxleData}
 use Rattle.axles.specs.Weights.{placesOf, isOn, onAt, weightOf, axleData, middleHolds, rearHolds}
 use Rattle.axles.specs.Weights.{middleUnder, rearUnder, exceeds, LowestPlaces}
@@ -63,7 +63,7 @@ module _ {m : Limits} {t rows : List ℕ} (h : HoldsRows m t rows) {on : Block} 
 
   -- the used truck, its truck and its stacks
   abbrev used : UsedTruck
-  used = usedBy (visitAt p (on .start))
+  used = usedBy (manifestAt p (on .start))
 
   abbrev truck : Truck
   truck = truckNumbered i (used .truck)
@@ -77,7 +77,7 @@ module _ {m : Limits} {t rows : List ℕ} (h : HoldsRows m t rows) {on : Block} 
   all-inside : Inside h (placesOf on)
   all-inside = from-inside h (on .start) (one .within)
 
-  stacks-are : stacks ≡ map (visitAt p) (placesOf on)
+  stacks-are : stacks ≡ map (manifestAt p) (placesOf on)
   stacks-are = block-places p (on .start) (on .end - on .start) (omega (arith, one .some, one .within))
 
   -- 26
@@ -88,13 +88,13 @@ module _ {m : Limits} {t rows : List ℕ} (h : HoldsRows m t rows) {on : Block} 
 
   -- 27 and 28: what the code tests at a departure is what the rule tests
   module _ (holds : Test) (kept : Instance → Truck → List Stack → Bool)
-      (same : (places : List ℕ) → Inside h places → holds rows (axleData truck) places ≡ kept i truck (map (visitAt p) places)) where
+      (same : (places : List ℕ) → Inside h places → holds rows (axleData truck) places ≡ kept i truck (map (manifestAt p) places)) where
     exceeded-is : (departure : ℕ) → exceeds holds rows on (axleData truck) departure
         ≡ (counts (stacksAtDeparture i stacks used departure) && not (kept i truck (stacksAtDeparture i stacks used departure)))
     unfolding stacksAtDeparture
     exceeded-is departure =
         rw (all-on used stacks (block-used one), stacks-are, on-are h departure (placesOf on) all-inside)
-        (ap₂ (λ n b. n && not b) (counts-if (visitAt p) (isOn rows departure) (placesOf on))
+        (ap₂ (λ n b. n && not b) (counts-if (manifestAt p) (isOn rows departure) (placesOf on))
         (same (onAt rows departure on) (every-filter (λ k. k < length p) (isOn rows departure) (placesOf on) all-inside)))
 
     departures-are : flatMap (exceededAt holds rows on (axleData truck) used) (departures i used) ≡ departurePlaces kept i stacks
@@ -104,11 +104,11 @@ module _ {m : Limits} {t rows : List ℕ} (h : HoldsRows m t rows) {on : Block} 
         (λ departure e. ap (λ b. onlyIf b (place (used .truck) (used .copy) departure)) (exceeded-is departure))
         ∙ rw (used-one used stacks some (block-used one), append-nil) refl
 
-  middle-same : (places : List ℕ) → Inside h places → middleUnder rows (axleData truck) places ≡ middleAxleHolds i truck (map (visitAt p) places)
+  middle-same : (places : List ℕ) → Inside h places → middleUnder rows (axleData truck) places ≡ middleAxleHolds i truck (map (manifestAt p) places)
   unfolding middleHolds middleAxleHolds H
   middle-same places inside = rw (levers-are h truck places inside) refl
 
-  rear-same : (places : List ℕ) → Inside h places → rearUnder rows (axleData truck) places ≡ rearAxleHolds i truck (map (visitAt p) places)
+  rear-same : (places : List ℕ) → Inside h places → rearUnder rows (axleData truck) places ≡ rearAxleHolds i truck (map (manifestAt p) places)
   unfolding rearHolds rearAxleHolds H weightOn
   rear-same places inside = rw (levers-are h truck places inside, weights-are h places inside) refl
 

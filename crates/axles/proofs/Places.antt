@@ -10,8 +10,8 @@ use Rattle.meaning.specs.Lists.{any, filter, upFrom, sum, sumℤ, Every}
 use Rattle.meaning.proofs.Lists.{every-reads, every-filter, in-upFrom}
 use Rattle.meaning.proofs.Sums.{sum-filter}
 use Rattle.meaning.proofs.Ring.{less, same-less, ring}
-use Rattle.visits.specs.Visits.{rowWord}
-use Rattle.visits.specs.declared.Block.{Block}
+use Rattle.manifest.specs.Manifest.{rowWord}
+use Rattle.manifest.specs.declared.Block.{Block}
 use Rattle.axles.specs.Weights.{placesFrom, isOn, weightAt, weightOf, leverBy, leverAt, leversOf, BoundedRow, BoundedRows}
 use Rattle.axles.proofs.Signed.{less-size, plus-size, times-size}
 

@@ -19,10 +19,10 @@ use Rattle.meaning.proofs.Permute.{sum-perm}
 use Rattle.table.specs.Filled.{Filled, TruckNumber, noStack}
 use Rattle.table.proofs.Access.{stacks-in, truck-in, per-entry-most, stack-weight}
 use Rattle.table.proofs.Bounds.{truck-most}
-use Rattle.visits.specs.Visits.{visitAt, visited, HoldsRows, OneTruck}
-use Rattle.visits.specs.declared.Block.{Block}
-use Rattle.visits.proofs.Order.{visited-length, visited-at, visited-perm}
-use Rattle.visits.proofs.Reading.{word-is, word-most}
+use Rattle.manifest.specs.Manifest.{manifestAt, inManifest, HoldsRows, OneTruck}
+use Rattle.manifest.specs.declared.Block.{Block}
+use Rattle.manifest.proofs.Order.{manifest-length, manifest-at, manifest-perm}
+use Rattle.manifest.proofs.Reading.{word-is, word-most}
 use Rattle.axles.specs.Weights.{placesFrom, isOn, weightOf, leverBy, leverAt, leversOf, BoundedRows, axleData, BoundedAxles}
 
 -- ---- lists of places
@@ -40,12 +40,12 @@ counts-if f test (a ∷ l) = go (test a) (counts-if f test l)
     go false e = e
 
 -- a block, by its places
-pub block-places : (p : List Stack) (k n : ℕ) → k + n ≤ length p → take n (drop k (visited p)) ≡ map (visitAt p) (upFrom k n)
+pub block-places : (p : List Stack) (k n : ℕ) → k + n ≤ length p → take n (drop k (inManifest p)) ≡ map (manifestAt p) (upFrom k n)
 unfolding upFrom
 block-places p k zero h = refl
 block-places p k (suc n) h =
-    let inside : k < length (visited p) = rw (visited-length p) (omega arith) in
-    rw (drop-cons (visited p) k noStack inside) (ap₂ _∷_ (visited-at p k (omega arith)) (block-places p (suc k) n (omega arith)))
+    let inside : k < length (inManifest p) = rw (manifest-length p) (omega arith) in
+    rw (drop-cons (inManifest p) k noStack inside) (ap₂ _∷_ (manifest-at p k (omega arith)) (block-places p (suc k) n (omega arith)))
 
 -- ---- trucks
 pub axles-bounded : {m : Limits} {t : List ℕ} → Filled m t → {n : ℕ} → TruckNumber (instanceIn m t) n → BoundedAxles (axleData (truckNumbered (instanceIn m t) n))
@@ -80,26 +80,26 @@ module _ {m : Limits} {t rows : List ℕ} (h : HoldsRows m t rows) where
   from-inside {end} k l = every-reads (λ j. j < length p) (placesFrom k end) .1 (λ j e. omega (arith, in-upFrom k (end - k) j .0 e))
 
   -- ---- sums over rows are sums over stacks
-  pub weights-are : (places : List ℕ) → Inside places → weightOf rows places ≡ sum (sm i) (map (visitAt p) places)
+  pub weights-are : (places : List ℕ) → Inside places → weightOf rows places ≡ sum (sm i) (map (manifestAt p) places)
   unfolding sum
   weights-are [] all = refl
   weights-are (k ∷ places) all = ap₂ _+_ (word-is h k (all .0) 8 (omega arith)) (weights-are places (all .1))
 
   pub levers-are : (truck : Truck) (places : List ℕ) → Inside places
-      → leversOf rows (axleData truck .twice) places ≡ sumℤ (lever i truck) (map (visitAt p) places)
+      → leversOf rows (axleData truck .twice) places ≡ sumℤ (lever i truck) (map (manifestAt p) places)
   unfolding sumℤ leverBy lever
   levers-are truck [] all = refl
   levers-are truck (k ∷ places) all =
       let word = word-is h k (all .0) in
-      let one : leverAt rows (axleData truck .twice) k ≡ lever i truck (visitAt p k) = rw (word 8 (omega arith), word 4 (omega arith), word 5 (omega arith)) refl in
+      let one : leverAt rows (axleData truck .twice) k ≡ lever i truck (manifestAt p k) = rw (word 8 (omega arith), word 4 (omega arith), word 5 (omega arith)) refl in
       ap₂ _+ℤ_ one (levers-are truck places (all .1))
 
   pub on-are : (departure : ℕ) (places : List ℕ) → Inside places
-      → filter (λ (s : Stack). between 1 departure (supplierOrder i s)) (map (visitAt p) places) ≡ map (visitAt p) (filter (isOn rows departure) places)
+      → filter (λ (s : Stack). between 1 departure (supplierOrder i s)) (map (manifestAt p) places) ≡ map (manifestAt p) (filter (isOn rows departure) places)
   unfolding filter
   on-are departure [] all = refl
   on-are departure (k ∷ places) all =
-      rw (word-is h k (all .0) 12 (omega arith), on-are departure places (all .1), map-if (visitAt p)) refl
+      rw (word-is h k (all .0) 12 (omega arith), on-are departure places (all .1), map-if (manifestAt p)) refl
 
   plan-weight : sum (sm i) p ≤ 3276800000
   plan-weight =
@@ -120,5 +120,5 @@ module _ {m : Limits} {t rows : List ℕ} (h : HoldsRows m t rows) where
           weights = λ k upto.
               let n = on .end - k in
               let is = weights-are (placesFrom k (on .end)) (from-inside k (one .within)) ∙ ap (sum (sm i)) (sym (block-places p k n (omega (arith, one .within)))) in
-              omega (arith, is, plan-weight, sum-perm (sm i) (visited-perm p), sum-drop (sm i) k (visited p), sum-take (sm i) n (drop k (visited p)));
+              omega (arith, is, plan-weight, sum-perm (sm i) (manifest-perm p), sum-drop (sm i) k (inManifest p), sum-take (sm i) n (drop k (inManifest p)));
         }

@@ -10,8 +10,8 @@ use Rattle.meaning.specs.Lists.{any, filter, upFrom, between, sum, sumℤ}
 use Rattle.meaning.specs.Model.{Instance, Truck, Stack, CM, CJfm, CJfc, CJfh, EM, EJhr, EJcr, EJeh, EMmr, EMmm}
 use Rattle.meaning.specs.Rules.{truckPlaces, departurePlaces, withinLoadLimit, middleAxleHolds, rearAxleHolds}
 use Rattle.search.specs.Lowest.{lowestIn}
-use Rattle.visits.specs.Visits.{rowWord}
-use Rattle.visits.specs.declared.Block.{Block}
+use Rattle.manifest.specs.Manifest.{rowWord}
+use Rattle.manifest.specs.declared.Block.{Block}
 use Rattle.axles.specs.declared.AxleData.{AxleData}
 use Rattle.axles.specs.declared.WeightPlaces.{WeightPlaces}
 

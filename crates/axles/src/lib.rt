@@ -9,9 +9,12 @@ ghost use Rattle.meaning.specs.Lists.{any};
 ghost use Rattle.meaning.specs.Model.{truckNumbered};
 ghost use Rattle.meaning.specs.Table.{instanceIn, stacksIn};
 ghost use Rattle.table.specs.Filled.{Filled, TruckNumber};
-ghost use Rattle.visits.specs.Visits.{block, HoldsRows, OneTruck};
+ghost use Rattle.manifest.specs.Manifest.{block, HoldsRows, OneTruck};
 ghost use Rattle.axles.specs.Weights.{placesOf, isOn, onAt, weightAt, leverAt, weightOf, leversOf, leverBy, BoundedRow, BoundedRows};
 ghost use Rattle.axles.specs.Weights.{axleData, BoundedAxles, momentBy, middleHolds, rearHolds, middleUnder, rearUnder, exceeds, LowestPlaces};
+use manifest::Block;
+use manifest::row;
+use manifest::row_word;
 use meaning::Limits;
 use search::Found;
 use search::lower_of;
@@ -29,9 +32,6 @@ use table::fields::EMMR;
 use table::fields::LOAD_LIMIT;
 use table::suppliers;
 use table::truck_field;
-use visits::Block;
-use visits::row;
-use visits::row_word;
 
 // ---- the stacks that are on at a departure
 

@@ -1,4 +1,4 @@
--- What the used trucks answer, from the last visited to the first: what is found so far is right of their stacks, in the end of the whole plan.
+-- What the used trucks answer, from the last of the manifest to the first: what is found so far is right of their stacks, in the end of the whole plan.
 use mathlib.Core.Path.{_≡_, refl, sym, ap, ap₂, _∙_}
 use mathlib.Core.Logic.{_↔_, inl}
 use mathlib.Core.Bool.{Bool, true, _&&_}
@@ -30,10 +30,10 @@ use Rattle.rules.specs.declared.TruckRule.{TruckRule}
 use Rattle.rules.specs.declared.TruckRule.the-variants.{Unbraced, Overload, Middle, Rear}
 use Rattle.rules.specs.LoadingRules.{pairTest, truckRulePlaces}
 use Rattle.table.specs.Filled.{Filled}
-use Rattle.visits.specs.Visits.{visitAt, visited, block, HoldsRows, OneTruck, Parted, RunBefore}
-use Rattle.visits.proofs.Reading.{run-before}
-use Rattle.visits.proofs.Order.{visited-length, visited-perm}
-use Rattle.visits.proofs.UsedTrucks.{block-split, block-apart}
+use Rattle.manifest.specs.Manifest.{manifestAt, inManifest, block, HoldsRows, OneTruck, Parted, RunBefore}
+use Rattle.manifest.proofs.Reading.{run-before}
+use Rattle.manifest.proofs.Order.{manifest-length, manifest-perm}
+use Rattle.manifest.proofs.UsedTrucks.{block-split, block-apart}
 use Rattle.judging.specs.declared.Findings.{Findings}
 use Rattle.placement.specs.Placed.{PlacedStacks}
 use Rattle.axles.specs.Weights.{LowestPlaces}
@@ -81,51 +81,51 @@ none-same (a ∷ l) l′ s e = absurd (rw e at (s .0 a (inl refl)))
 -- ---- one such rule, from the last used truck to the first
 module _ {places : Instance → List Stack → List Place} {i : Instance} (by : ByTruck places i) (p : List Stack) where
   -- behind the last stack it has no place
-  none-behind : {end : ℕ} → end ≡ length p → places i (drop end (visited p)) ≡ []
+  none-behind : {end : ℕ} → end ≡ length p → places i (drop end (inManifest p)) ≡ []
   none-behind {end} e =
-      let past : length (visited p) ≤ end = omega (arith, visited-length p) in
-      rw (drop-of-length-le (visited p) past) (by .none)
+      let past : length (inManifest p) ≤ end = omega (arith, manifest-length p) in
+      rw (drop-of-length-le (inManifest p) past) (by .none)
 
   -- the places on a used truck, and those behind it
   split : {start end : ℕ} → OneTruck p start end → Parted p end
-      → places i (drop start (visited p)) ≡ places i (block p start end) ++ places i (drop end (visited p))
+      → places i (drop start (inManifest p)) ≡ places i (block p start end) ++ places i (drop end (inManifest p))
   split {start} {end} one parted =
       ap (places i) (block-split p start end (omega (arith, one .some)))
-      ∙ by .apart (block p start end) (drop end (visited p)) (block-apart one parted)
+      ∙ by .apart (block p start end) (drop end (inManifest p)) (block-apart one parted)
 
   -- a yes/no
-  yes-start : {end : ℕ} → end ≡ length p → (true ≡ true) ↔ (places i (drop end (visited p)) ≡ [])
+  yes-start : {end : ℕ} → end ≡ length p → (true ≡ true) ↔ (places i (drop end (inManifest p)) ≡ [])
   yes-start e = ((λ t. none-behind e), (λ n. refl))
 
   yes-more : {start end : ℕ} (a b : Bool) → OneTruck p start end → Parted p end → (a ≡ true) ↔ (places i (block p start end) ≡ [])
-      → (b ≡ true) ↔ (places i (drop end (visited p)) ≡ []) → ((a && b) ≡ true) ↔ (places i (drop start (visited p)) ≡ [])
+      → (b ≡ true) ↔ (places i (drop end (inManifest p)) ≡ []) → ((a && b) ≡ true) ↔ (places i (drop start (inManifest p)) ≡ [])
   yes-more {start} {end} a b one parted ha hb =
       let both = and-reads a b in
-      let none = append-none (places i (block p start end)) (places i (drop end (visited p))) in (
+      let none = append-none (places i (block p start end)) (places i (drop end (inManifest p))) in (
         (λ e. let t = both .0 e in split one parted ∙ none .1 (ha .0 (t .0), hb .0 (t .1))),
         (λ e. let n = none .0 (sym (split one parted) ∙ e) in both .1 (ha .1 (n .0), hb .1 (n .1))),
       )
 
-  yes-all : (kept : Bool) → (kept ≡ true) ↔ (places i (visited p) ≡ []) → (kept ≡ true) ↔ (places i p ≡ [])
+  yes-all : (kept : Bool) → (kept ≡ true) ↔ (places i (inManifest p) ≡ []) → (kept ≡ true) ↔ (places i p ≡ [])
   yes-all kept h =
-      let s = by .same p (visited p) (visited-perm p) in
-      ((λ e. none-same (places i p) (places i (visited p)) s (h .0 e)), (λ e. h .1 (none-same (places i (visited p)) (places i p) (s .1, s .0) e)))
+      let s = by .same p (inManifest p) (manifest-perm p) in
+      ((λ e. none-same (places i p) (places i (inManifest p)) s (h .0 e)), (λ e. h .1 (none-same (places i (inManifest p)) (places i p) (s .1, s .0) e)))
 
   -- the lowest place
-  found-start : {end : ℕ} → end ≡ length p → Nothing ≡ lowestIn (places i (drop end (visited p)))
+  found-start : {end : ℕ} → end ≡ length p → Nothing ≡ lowestIn (places i (drop end (inManifest p)))
   found-start e = rw (none-behind e) (sym lowest-none)
 
   found-more : {start end : ℕ} {a b : Found} → OneTruck p start end → Parted p end → a ≡ lowestIn (places i (block p start end))
-      → b ≡ lowestIn (places i (drop end (visited p))) → lowerFound a b ≡ lowestIn (places i (drop start (visited p)))
+      → b ≡ lowestIn (places i (drop end (inManifest p))) → lowerFound a b ≡ lowestIn (places i (drop start (inManifest p)))
   found-more {start} {end} one parted ea eb =
-      ap₂ lowerFound ea eb ∙ sym (lowest-append (places i (block p start end)) (places i (drop end (visited p)))) ∙ sym (ap lowestIn (split one parted))
+      ap₂ lowerFound ea eb ∙ sym (lowest-append (places i (block p start end)) (places i (drop end (inManifest p)))) ∙ sym (ap lowestIn (split one parted))
 
-  found-all : {a : Found} → a ≡ lowestIn (places i (visited p)) → a ≡ lowestIn (places i p)
-  found-all e = e ∙ sym (lowest-members (places i p) (places i (visited p)) (by .same p (visited p) (visited-perm p)))
+  found-all : {a : Found} → a ≡ lowestIn (places i (inManifest p)) → a ≡ lowestIn (places i p)
+  found-all e = e ∙ sym (lowest-members (places i p) (places i (inManifest p)) (by .same p (inManifest p) (manifest-perm p)))
 
 -- ---- every rule that the used trucks are asked
 module _ (i : Instance) (p : List Stack) where
-  tells-start : (rule : Rule) {end : ℕ} → end ≡ length p → Tells rule i (drop end (visited p)) noFindings
+  tells-start : (rule : Rule) {end : ℕ} → end ≡ length p → Tells rule i (drop end (inManifest p)) noFindings
   tells-start (OfStacks rule) e = tt
   tells-start (OfPairs SecondPair) e = yes-start (pairs-by-truck SecondPair i) p e
   tells-start (OfPairs Overlap) e = yes-start (pairs-by-truck Overlap i) p e
@@ -137,7 +137,7 @@ module _ (i : Instance) (p : List Stack) where
 
   -- one used truck more
   tells-more : (rule : Rule) {start end : ℕ} (a b : Findings) → OneTruck p start end → Parted p end → Tells rule i (block p start end) a
-      → Tells rule i (drop end (visited p)) b → Tells rule i (drop start (visited p)) (joined a b)
+      → Tells rule i (drop end (inManifest p)) b → Tells rule i (drop start (inManifest p)) (joined a b)
   tells-more (OfStacks rule) a b one parted ha hb = tt
   tells-more (OfPairs SecondPair) a b one parted ha hb = yes-more (pairs-by-truck SecondPair i) p _ _ one parted ha hb
   tells-more (OfPairs Overlap) a b one parted ha hb = yes-more (pairs-by-truck Overlap i) p _ _ one parted ha hb
@@ -148,7 +148,7 @@ module _ (i : Instance) (p : List Stack) where
   tells-more (OfTrucks Rear) a b one parted ha hb = found-more (trucks-by-truck Rear i) p one parted ha hb
 
   -- of the whole plan
-  tells-all : (rule : Rule) (f : Findings) → Tells rule i (visited p) f → Tells rule i p f
+  tells-all : (rule : Rule) (f : Findings) → Tells rule i (inManifest p) f → Tells rule i p f
   tells-all (OfStacks rule) f h = tt
   tells-all (OfPairs rule) f h = yes-all (pairs-by-truck rule i) p _ h
   tells-all (OfTrucks rule) f h = found-all (trucks-by-truck rule i) p h
@@ -162,9 +162,9 @@ beforehand-joined (OfPairs Order) a b h = and-reads (a .placement .apart) (b .pl
 beforehand-joined (OfTrucks rule) a b h = (tt, tt)
 
 -- ---- the loop over the used trucks
--- the answers so far are right of the stacks that are visited from `end` on
+-- the answers so far are right of the stacks from `end` on
 pub record Told (asked : Asked) (i : Instance) (p : List Stack) (end : ℕ) (f : Findings) (count cost : ℕ) : Type 0 where
-  pub each : (rule : Rule) → isAsked asked rule ≡ true → Beforehand rule f → Tells rule i (drop end (visited p)) f
+  pub each : (rule : Rule) → isAsked asked rule ≡ true → Beforehand rule f → Tells rule i (drop end (inManifest p)) f
   pub counted : Counted i p end count cost
 
 module _ {asked : Asked} {i : Instance} {p : List Stack} where
@@ -174,7 +174,7 @@ module _ {asked : Asked} {i : Instance} {p : List Stack} where
   -- one used truck more
   pub told-more : {start end count cost count′ cost′ : ℕ} (a b : Findings) → Told asked i p end b count cost → OneTruck p start end × Parted p start
       → ((rule : Rule) → isAsked asked rule ≡ true → Beforehand rule a → Tells rule i (block p start end) a)
-      → (count′ ≡ count + 1) × (cost′ ≡ transportCost i (usedBy (visitAt p start)) + cost) × (cost′ ≤ cost + 2000000000)
+      → (count′ ≡ count + 1) × (cost′ ≡ transportCost i (usedBy (manifestAt p start)) + cost) × (cost′ ≤ cost + 2000000000)
       → Told asked i p start (joined a b) count′ cost′
   told-more a b h one here paid =
       record {

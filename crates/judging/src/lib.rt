@@ -14,7 +14,7 @@ ghost use Rattle.search.specs.Lowest.{lowestIn};
 ghost use Rattle.rules.specs.LoadingRules.{rulePlaces, ruleCount};
 ghost use Rattle.rules.specs.declared.Rule.the-variants.{OfPairs};
 ghost use Rattle.table.specs.Filled.{Filled};
-ghost use Rattle.visits.specs.Visits.{visitAt, block, HoldsRows, OneTruck};
+ghost use Rattle.manifest.specs.Manifest.{manifestAt, block, HoldsRows, OneTruck};
 ghost use Rattle.placement.specs.Placed.{TruckRows, PlacedRows};
 ghost use Rattle.axles.specs.Weights.{LowestPlaces};
 ghost use Rattle.judging.specs.Judging.{withPlacement, withWeights, withPairRule, withTruckRule, withRule, AskedBelow, joinedPlacement, joinedWeights, TellsAsked, CountsTrucks};
@@ -23,6 +23,11 @@ use axles::WeightPlaces;
 use axles::truck_weights;
 use costs::plan_cost;
 use costs::truck_cost;
+use manifest::Block;
+use manifest::row;
+use manifest::row_word;
+use manifest::truck_start;
+use manifest::write_manifest;
 use meaning::Answer;
 use meaning::Limits;
 use meaning::Place;
@@ -44,11 +49,6 @@ use stackrules::Breach;
 use stackrules::first_on_stacks;
 use stackrules::lowest_not_once;
 use table::stack_count;
-use visits::Block;
-use visits::row;
-use visits::row_word;
-use visits::truck_start;
-use visits::visit_stacks;
 
 // ---- what is asked of the used trucks
 
@@ -251,7 +251,7 @@ fn with_truck(used: UsedTrucks, t: &[u32], limits: Limits, rows: &[u32], start: 
     requires { ⌜ HoldsRows limits (now t) (now rows) × (start < length (stacksIn limits (now t))) × (used .count ≤ 2097152)
         × (used .cost ≤ 4194304000000000) ⌝ }
     ensures { λ r. ⌜ (r .count ≡ used .count + 1) × (r .cost ≡ transportCost (instanceIn limits (now (t .entry)))
-        (usedBy (visitAt (stacksIn limits (now (t .entry))) start)) + used .cost) × (r .cost ≤ used .cost + 2000000000) ⌝ }
+        (usedBy (manifestAt (stacksIn limits (now (t .entry))) start)) + used .cost) × (r .cost ≤ used .cost + 2000000000) ⌝ }
 {
     let truck = row_word(rows, start, row::TRUCK);
     let copy = row_word(rows, start, row::COPY);
@@ -534,6 +534,6 @@ pub fn judge(
         Found::At(place) => return refuse(9, place),
         Found::Nothing => {}
     }
-    visit_stacks(t, limits, keys, order, rows);
+    write_manifest(t, limits, keys, order, rows);
     judge_loading(t, limits, rows, keys, order)
 }

@@ -14,7 +14,7 @@ use Rattle.meaning.proofs.Tests.{eq-reads, iff-trans}
 use Rattle.meaning.proofs.Lists.{same-turned}
 use Rattle.views.specs.declared.Footprint.{Footprint}
 use Rattle.views.specs.Views.{footprintOf}
-use Rattle.visits.specs.Visits.{visitAt, block, OneTruck}
+use Rattle.manifest.specs.Manifest.{manifestAt, block, OneTruck}
 use Rattle.pairrules.specs.PairRules.{disjointFootprints, Each}
 use Rattle.pairrules.proofs.Places.{behind-enough, block-pairs}
 use Rattle.pairrules.proofs.Ranks.{in-front}
@@ -52,9 +52,9 @@ single-turned i s r =
 
 -- so 17 is told by each stack with those behind it
 pub single-block : (i : Instance) {p : List Stack} {start end : ℕ} → OneTruck p start end
-    → Each (λ j. Each (λ k. singlePair i (visitAt p j) (visitAt p k) ≡ true) (j + 1) end) start end ↔ (pairPlaces singlePair i (block p start end) ≡ [])
+    → Each (λ j. Each (λ k. singlePair i (manifestAt p j) (manifestAt p k) ≡ true) (j + 1) end) start end ↔ (pairPlaces singlePair i (block p start end) ≡ [])
 single-block i {p} one =
-    iff-trans (behind-enough (λ j k e. single-turned i (visitAt p k) (visitAt p j) ∙ e)) (block-pairs one singlePair i)
+    iff-trans (behind-enough (λ j k e. single-turned i (manifestAt p k) (manifestAt p j) ∙ e)) (block-pairs one singlePair i)
 
 pub footprints-turned : (a b : Footprint) → disjointFootprints a b ≡ disjointFootprints b a
 footprints-turned a b = pairs-turned (leb (a .xe) (b .x)) (leb (b .xe) (a .x)) (leb (a .ye) (b .y)) (leb (b .ye) (a .y))

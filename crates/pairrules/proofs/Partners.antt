@@ -23,10 +23,10 @@ use Rattle.meaning.proofs.Permute.{perm-same}
 use Rattle.meaning.proofs.RuleKinds.{used-reads}
 use Rattle.meaning.proofs.WellFormed.{meets-formed}
 use Rattle.table.specs.Filled.{noStack}
-use Rattle.visits.specs.declared.Block.{Block}
-use Rattle.visits.specs.Visits.{visitOrder, visitAt, visited, HoldsRows, OneTruck, Parted, rowWord, sameTruckAt}
-use Rattle.visits.proofs.Order.{order-within, order-rising, visited-length, visited-at, visited-perm}
-use Rattle.visits.proofs.Reading.{run-before, run-behind}
+use Rattle.manifest.specs.declared.Block.{Block}
+use Rattle.manifest.specs.Manifest.{manifestOrder, manifestAt, inManifest, HoldsRows, OneTruck, Parted, rowWord, sameTruckAt}
+use Rattle.manifest.proofs.Order.{order-within, order-rising, manifest-length, manifest-at, manifest-perm}
+use Rattle.manifest.proofs.Reading.{run-before, run-behind}
 use Rattle.rules.specs.declared.PairRule.{PairRule}
 use Rattle.rules.specs.declared.PairRule.the-variants.{SecondPair, Overlap, Order}
 use Rattle.rules.specs.LoadingRules.{pairTest}
@@ -76,21 +76,21 @@ module _ {m : Limits} {t rows : List ℕ} (h : HoldsRows m t rows) where
   abbrev p : List Stack
   p = stacksIn m t
 
-  pub stack-in : (k : ℕ) → k < length p → In (visitAt p k) p
-  stack-in k inside = at-in p noStack (getD (visitOrder p) k 0) (order-within p k inside)
+  pub stack-in : (k : ℕ) → k < length p → In (manifestAt p k) p
+  stack-in k inside = at-in p noStack (getD (manifestOrder p) k 0) (order-within p k inside)
 
-  pub stack-place : (s : Stack) → In s p → (k : ℕ) × (k < length p) × (s ≡ visitAt p k)
+  pub stack-place : (s : Stack) → In s p → (k : ℕ) × (k < length p) × (s ≡ manifestAt p k)
   stack-place s there =
-      let w = in-at noStack (visited p) s (perm-same (visited-perm p) .0 s there) in
-      let inside : w .0 < length p = omega (arith, w .1, visited-length p) in
-      (w .0, inside, w .2 ∙ visited-at p (w .0) inside)
+      let w = in-at noStack (inManifest p) s (perm-same (manifest-perm p) .0 s there) in
+      let inside : w .0 < length p = omega (arith, w .1, manifest-length p) in
+      (w .0, inside, w .2 ∙ manifest-at p (w .0) inside)
 
   -- a stack is known by its number
   pub one-stack : (s r : Stack) → In s p → In r p → number s ≡ number r → s ≡ r
   one-stack = meets-formed m i p (h .filled .range) .known
 
   -- on one used truck the number does not fall
-  pub number-upto : (j k : ℕ) → j ≤ k → k < length p → usedBy (visitAt p j) ≡ usedBy (visitAt p k) → number (visitAt p j) ≤ number (visitAt p k)
+  pub number-upto : (j k : ℕ) → j ≤ k → k < length p → usedBy (manifestAt p j) ≡ usedBy (manifestAt p k) → number (manifestAt p j) ≤ number (manifestAt p k)
   number-upto j k upto inside used =
       omega (arith, order-rising p j k upto inside, ap (λ (u : UsedTruck). u .truck) used, ap (λ (u : UsedTruck). u .copy) used)
 
@@ -106,14 +106,14 @@ module _ {m : Limits} {t rows : List ℕ} (h : HoldsRows m t rows) where
     inside-a = (omega (arith, before-it .0 .some), behind-it .0 .some, behind-it .0 .within)
 
     -- those of its used truck are in the block, and no others
-    pub block-used : (k : ℕ) → Inside (on .start) (on .end) k → usedBy (visitAt p a) ≡ usedBy (visitAt p k)
+    pub block-used : (k : ℕ) → Inside (on .start) (on .end) k → usedBy (manifestAt p a) ≡ usedBy (manifestAt p k)
     block-used k inside = go (decLe a k)
       where
-        go : Dec (a ≤ k) → usedBy (visitAt p a) ≡ usedBy (visitAt p k)
+        go : Dec (a ≤ k) → usedBy (manifestAt p a) ≡ usedBy (manifestAt p k)
         go (yes l) = sym (behind-it .0 .same k l (inside .1))
         go (no l) = before-it .0 .same a (inside-a .0) (omega arith) ∙ sym (before-it .0 .same k (inside .0) (omega arith))
 
-    pub used-block : (k : ℕ) → k < length p → usedBy (visitAt p a) ≡ usedBy (visitAt p k) → Inside (on .start) (on .end) k
+    pub used-block : (k : ℕ) → k < length p → usedBy (manifestAt p a) ≡ usedBy (manifestAt p k) → Inside (on .start) (on .end) k
     used-block k within used = (from (decLe (on .start) k), upto (decLe (on .end) k))
       where
         from : Dec (on .start ≤ k) → on .start ≤ k
@@ -133,12 +133,12 @@ module _ {m : Limits} {t rows : List ℕ} (h : HoldsRows m t rows) where
 
     -- a partner is another stack, unless it is the stack itself, which keeps the rule
     pub partner-differs : (r : PairRule) → (k : ℕ) → firstPartner r a (on .start) ≤ k → k < on .end
-        → pairTest r i (visitAt p a) (visitAt p k) ≡ false → number (visitAt p a) ≡ number (visitAt p k) → ⊥
+        → pairTest r i (manifestAt p a) (manifestAt p k) ≡ false → number (manifestAt p a) ≡ number (manifestAt p k) → ⊥
     partner-differs SecondPair k low up breaks e = omega (arith, behind-it .0 .rising a k (omega arith) (omega arith) up)
     partner-differs Overlap k low up breaks e = omega (arith, behind-it .0 .rising a k (omega arith) (omega arith) up)
     partner-differs Order k low up breaks e =
         let same = one-stack _ _ (stack-in a (omega (arith, inside-a))) (stack-in k (omega (arith, inside-a))) e in
-        true≢false (sym (self-in-order i (visitAt p a)) ∙ ap (inLoadingOrder i (visitAt p a)) same ∙ breaks)
+        true≢false (sym (self-in-order i (manifestAt p a)) ∙ ap (inLoadingOrder i (manifestAt p a)) same ∙ breaks)
 
 -- ---- the block of one stack is that of each in it
 -- two rows of one used truck are alike to any other

@@ -17,8 +17,8 @@ use Rattle.meaning.proofs.Tests.{true≢false}
 use Rattle.meaning.proofs.Lists.{at-in}
 use Rattle.meaning.proofs.RuleKinds.{pairs-kept}
 use Rattle.table.specs.Filled.{noStack}
-use Rattle.visits.specs.Visits.{visitAt, block, OneTruck}
-use Rattle.visits.proofs.UsedTrucks.{block-length, block-at, block-place}
+use Rattle.manifest.specs.Manifest.{manifestAt, block, OneTruck}
+use Rattle.manifest.proofs.UsedTrucks.{block-length, block-at, block-place}
 use Rattle.pairrules.specs.PairRules.{Inside, Each, EachTwo}
 
 -- equal tests are passed together
@@ -74,15 +74,15 @@ behind-enough {P} {start} {end} turned = (
 
 -- ---- the stacks of one used truck
 module _ {p : List Stack} {start end : ℕ} (one : OneTruck p start end) where
-  pub block-has : (k : ℕ) → Inside start end k → In (visitAt p k) (block p start end)
+  pub block-has : (k : ℕ) → Inside start end k → In (manifestAt p k) (block p start end)
   block-has k h =
       let inside : k - start < length (block p start end) = rw (block-length one) (omega arith) in
       let e : start + (k - start) ≡ k = omega arith in
-      subst (λ (s : Stack). In s (block p start end)) (block-at one (k - start) (omega arith) ∙ ap (visitAt p) e)
+      subst (λ (s : Stack). In s (block p start end)) (block-at one (k - start) (omega arith) ∙ ap (manifestAt p) e)
       (at-in (block p start end) noStack (k - start) inside)
 
   -- a number stands at one place only
-  place-once : (j k : ℕ) → Inside start end j → Inside start end k → number (visitAt p j) ≡ number (visitAt p k) → j ≡ k
+  place-once : (j k : ℕ) → Inside start end j → Inside start end k → number (manifestAt p j) ≡ number (manifestAt p k) → j ≡ k
   place-once j k a b e = ⊎-elim (λ q. q) (λ less. absurd (omega (arith, one .rising j k (a .0) less (b .1)))) (eq-or-lt-of-le (first (decLe j k)))
     where
       first : Dec (j ≤ k) → j ≤ k
@@ -91,14 +91,14 @@ module _ {p : List Stack} {start end : ℕ} (one : OneTruck p start end) where
 
   -- a rule lists no pair exactly where the stacks at each two places keep it
   pub block-pairs : (kept : Instance → Stack → Stack → Bool) (i : Instance)
-      → EachTwo (λ j k. kept i (visitAt p j) (visitAt p k) ≡ true) start end ↔ (pairPlaces kept i (block p start end) ≡ [])
+      → EachTwo (λ j k. kept i (manifestAt p j) (manifestAt p k) ≡ true) start end ↔ (pairPlaces kept i (block p start end) ≡ [])
   block-pairs kept i = (
     (λ two. pairs-kept i (block p start end) kept .1 (λ s r m n same differ.
         let a = block-place one s m in
         let b = block-place one r n in
-        ap₂ (kept i) (a .3) (b .3) ∙ two (a .0) (b .0) (a .1, a .2) (b .1, b .2) (λ e. differ (ap number (a .3 ∙ ap (visitAt p) e ∙ sym (b .3)))))),
+        ap₂ (kept i) (a .3) (b .3) ∙ two (a .0) (b .0) (a .1, a .2) (b .1, b .2) (λ e. differ (ap number (a .3 ∙ ap (manifestAt p) e ∙ sym (b .3)))))),
     (λ none j k a b differ.
-        let used : usedBy (visitAt p j) ≡ usedBy (visitAt p k) = one .same j (a .0) (a .1) ∙ sym (one .same k (b .0) (b .1)) in
-        pairs-kept i (block p start end) kept .0 none (visitAt p j) (visitAt p k) (block-has j a) (block-has k b)
+        let used : usedBy (manifestAt p j) ≡ usedBy (manifestAt p k) = one .same j (a .0) (a .1) ∙ sym (one .same k (b .0) (b .1)) in
+        pairs-kept i (block p start end) kept .0 none (manifestAt p j) (manifestAt p k) (block-has j a) (block-has k b)
         (record { truck = ap (λ (u : UsedTruck). u .truck) used; copy = ap (λ (u : UsedTruck). u .copy) used }) (λ e. differ (place-once j k a b e))),
   )

@@ -15,7 +15,7 @@ use Rattle.meaning.proofs.Lists.{all-every}
 use Rattle.views.specs.declared.Rank.{Rank}
 use Rattle.views.specs.Views.{plantDockOrders, rangeOf, rankOf}
 use Rattle.views.proofs.OrderRanges.{range-low, range-high}
-use Rattle.visits.specs.Visits.{rowWord, rankAt}
+use Rattle.manifest.specs.Manifest.{rowWord, rankAt}
 use Rattle.pairrules.specs.PairRules.{ranksBefore, inOrderAt}
 
 -- ---- the test on ranks, as the code makes it

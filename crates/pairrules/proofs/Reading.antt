@@ -11,9 +11,9 @@ use Rattle.meaning.specs.Rules.{plantDockCount, disjoint, inContact, inLoadingO
 use Rattle.meaning.specs.Table.{instanceIn, stacksIn}
 use Rattle.table.specs.Filled.{stackAt}
 use Rattle.views.proofs.Bounds.{orders-bound}
-use Rattle.visits.specs.Visits.{visitOrder, visitAt, HoldsRows, rowWord}
-use Rattle.visits.proofs.Order.{order-within}
-use Rattle.visits.proofs.Reading.{word-is, footprint-is, rank-is}
+use Rattle.manifest.specs.Manifest.{manifestOrder, manifestAt, HoldsRows, rowWord}
+use Rattle.manifest.proofs.Order.{order-within}
+use Rattle.manifest.proofs.Reading.{word-is, footprint-is, rank-is}
 use Rattle.pairrules.specs.PairRules.{disjointFootprints, footprintsInContact, ranksBefore, disjointAt, inContactAt, inOrderAt}
 use Rattle.pairrules.proofs.Ranks.{FewOrders, ranks-before}
 
@@ -24,26 +24,26 @@ module _ {m : Limits} {t rows : List ℕ} (h : HoldsRows m t rows) where
   abbrev p : List Stack
   p = stacksIn m t
 
-  few-orders : (k : ℕ) → k < length p → FewOrders i (visitAt p k)
-  few-orders k inside = orders-bound (h .filled) (getD (visitOrder p) k 0) (order-within p k inside)
+  few-orders : (k : ℕ) → k < length p → FewOrders i (manifestAt p k)
+  few-orders k inside = orders-bound (h .filled) (getD (manifestOrder p) k 0) (order-within p k inside)
 
   -- 17: how many plant docks the stack has, and its code by its place in the plan's file
-  pub docks-are : (k : ℕ) → k < length p → rowWord rows k 9 ≡ plantDockCount i (visitAt p k)
+  pub docks-are : (k : ℕ) → k < length p → rowWord rows k 9 ≡ plantDockCount i (manifestAt p k)
   docks-are k inside = word-is h k inside 9 (omega arith)
 
-  pub code-is : (k : ℕ) → k < length p → {s code : ℕ} → s ≡ rowWord rows k 0 → code ≡ IS (bottom i (stackAt p s)) → code ≡ IS (bottom i (visitAt p k))
+  pub code-is : (k : ℕ) → k < length p → {s code : ℕ} → s ≡ rowWord rows k 0 → code ≡ IS (bottom i (stackAt p s)) → code ≡ IS (bottom i (manifestAt p k))
   code-is k inside es e = e ∙ ap (λ s. IS (bottom i (stackAt p s))) (es ∙ word-is h k inside 0 (omega arith))
 
   module _ (a b : ℕ) (la : a < length p) (lb : b < length p) where
-    pub disjoint-is : disjointAt rows a b ≡ disjoint i (visitAt p a) (visitAt p b)
+    pub disjoint-is : disjointAt rows a b ≡ disjoint i (manifestAt p a) (manifestAt p b)
     disjoint-is = ap₂ disjointFootprints (footprint-is h a la) (footprint-is h b lb)
 
-    pub contact-is : inContactAt rows a b ≡ inContact i (visitAt p a) (visitAt p b)
+    pub contact-is : inContactAt rows a b ≡ inContact i (manifestAt p a) (manifestAt p b)
     contact-is = ap₂ footprintsInContact (footprint-is h a la) (footprint-is h b lb)
 
-    pub order-is : inOrderAt rows a b ≡ inLoadingOrder i (visitAt p a) (visitAt p b)
+    pub order-is : inOrderAt rows a b ≡ inLoadingOrder i (manifestAt p a) (manifestAt p b)
     order-is =
-        let s = visitAt p a in
-        let r = visitAt p b in
+        let s = manifestAt p a in
+        let r = manifestAt p b in
         let ranks = ap₂ ranksBefore (rank-is h a la) (rank-is h b lb) ∙ ranks-before i s r (few-orders a la) (few-orders b lb) in
         rw (ranks, word-is h a la 4 (omega arith), word-is h b lb 4 (omega arith))

@@ -11,10 +11,10 @@ use Rattle.meaning.specs.Lists.{upFrom, In}
 use Rattle.meaning.proofs.Tests.{iff-trans}
 use Rattle.meaning.proofs.Lists.{NoRepeat, at-in, in-at, in-upFrom, length-upFrom}
 use Rattle.meaning.proofs.Permute.{noRepeat-perm}
-use Rattle.visits.specs.declared.Block.{Block}
-use Rattle.visits.specs.Visits.{sortBy, rowWord}
-use Rattle.visits.proofs.Order.{sort-perm, sort-length, sort-in, sort-rising, sort-agree}
-use Rattle.visits.proofs.UsedTrucks.{noRepeat-at}
+use Rattle.manifest.specs.declared.Block.{Block}
+use Rattle.manifest.specs.Manifest.{sortBy, rowWord}
+use Rattle.manifest.proofs.Order.{sort-perm, sort-length, sort-in, sort-rising, sort-agree}
+use Rattle.manifest.proofs.UsedTrucks.{noRepeat-at}
 use Rattle.pairrules.specs.PairRules.{Inside, SortedRows, placeAt}
 
 -- ---- the keys

@@ -9,8 +9,8 @@ use lib.ListN.{length, getD, take}
 use Rattle.meaning.specs.Lists.{upFrom}
 use Rattle.views.specs.declared.Footprint.{Footprint}
 use Rattle.views.specs.declared.Rank.{Rank}
-use Rattle.visits.specs.declared.Block.{Block}
-use Rattle.visits.specs.Visits.{sortBy, rowWord, footprintAt, rankAt, RunBefore, RunBehind}
+use Rattle.manifest.specs.declared.Block.{Block}
+use Rattle.manifest.specs.Manifest.{sortBy, rowWord, footprintAt, rankAt, RunBefore, RunBehind}
 use Rattle.rules.specs.declared.PairRule.{PairRule}
 use Rattle.rules.specs.declared.PairRule.the-variants.{SecondPair, Overlap, Order}
 

@@ -10,36 +10,36 @@ ghost use Rattle.meaning.specs.Table.{instanceIn, stacksIn};
 ghost use Rattle.meaning.specs.Rules.{pairPlaces, singlePair};
 ghost use Rattle.search.specs.Lowest.{lowestIn};
 ghost use Rattle.rules.specs.LoadingRules.{pairTest};
-ghost use Rattle.visits.specs.Visits.{visitAt, block, HoldsRows, OneTruck};
+ghost use Rattle.manifest.specs.Manifest.{manifestAt, block, HoldsRows, OneTruck};
 ghost use Rattle.pairrules.specs.PairRules.{disjointFootprints, footprintsInContact, ranksBefore, inOrderAt};
 ghost use Rattle.pairrules.specs.PairRules.{Each, SortedRows, wholePlan, BlockOf, KnownBlock, firstPartner};
+use manifest::Block;
+use manifest::footprint_at;
+use manifest::rank_at;
+use manifest::row;
+use manifest::row_word;
+use manifest::sort;
+use manifest::stack_at;
+use manifest::truck_end;
+use manifest::truck_start;
 use meaning::Limits;
 use meaning::Place;
 use rules::PairRule;
 use search::Found;
+use table::as_index;
 use table::fields::IS;
 use table::stack_count;
 use views::Footprint;
 use views::Rank;
 use views::bottom_field;
-use visits::Block;
-use visits::as_index;
-use visits::footprint_at;
-use visits::rank_at;
-use visits::row;
-use visits::row_word;
-use visits::sort;
-use visits::stack_at;
-use visits::truck_end;
-use visits::truck_start;
 
 // ---- the tests
 
 // 17 second pair, S3: two stacks of one code do not both have two plant docks. Codes are read for two-dock stacks only.
 fn is_single_pair(t: &[u32], limits: Limits, rows: &[u32], a: usize, b: usize) -> bool
     requires { ⌜ HoldsRows limits (now t) (now rows) × (a < length (stacksIn limits (now t))) × (b < length (stacksIn limits (now t))) ⌝ }
-    ensures { λ r. ⌜ r ≡ singlePair (instanceIn limits (now (t .entry))) (visitAt (stacksIn limits (now (t .entry))) a)
-        (visitAt (stacksIn limits (now (t .entry))) b) ⌝ }
+    ensures { λ r. ⌜ r ≡ singlePair (instanceIn limits (now (t .entry))) (manifestAt (stacksIn limits (now (t .entry))) a)
+        (manifestAt (stacksIn limits (now (t .entry))) b) ⌝ }
 {
     if row_word(rows, a, row::PLANT_DOCKS) != 2 {
         return true;
@@ -91,8 +91,8 @@ pub fn in_loading_order(rows: &[u32], a: usize, b: usize) -> bool
 // Whether the stacks at two places keep a rule.
 fn pair_kept(rule: PairRule, t: &[u32], limits: Limits, rows: &[u32], a: usize, b: usize) -> bool
     requires { ⌜ HoldsRows limits (now t) (now rows) × (a < length (stacksIn limits (now t))) × (b < length (stacksIn limits (now t))) ⌝ }
-    ensures { λ r. ⌜ r ≡ pairTest rule (instanceIn limits (now (t .entry))) (visitAt (stacksIn limits (now (t .entry))) a)
-        (visitAt (stacksIn limits (now (t .entry))) b) ⌝ }
+    ensures { λ r. ⌜ r ≡ pairTest rule (instanceIn limits (now (t .entry))) (manifestAt (stacksIn limits (now (t .entry))) a)
+        (manifestAt (stacksIn limits (now (t .entry))) b) ⌝ }
 {
     match rule {
         PairRule::SecondPair => is_single_pair(t, limits, rows, a, b),
@@ -106,8 +106,8 @@ fn pair_kept(rule: PairRule, t: &[u32], limits: Limits, rows: &[u32], a: usize, 
 // Whether the stack at place a keeps 17 with each behind it, up to `end`. Most stacks do not have two plant docks: they keep it with any.
 fn is_single_behind(t: &[u32], limits: Limits, rows: &[u32], a: usize, end: usize) -> bool
     requires { ⌜ HoldsRows limits (now t) (now rows) × (a < end) × (end ≤ length (stacksIn limits (now t))) ⌝ }
-    ensures { λ r. ⌜ (r ≡ true) ↔ Each (λ b. singlePair (instanceIn limits (now (t .entry))) (visitAt (stacksIn limits (now (t .entry))) a)
-        (visitAt (stacksIn limits (now (t .entry))) b) ≡ true) (a + 1) end ⌝ }
+    ensures { λ r. ⌜ (r ≡ true) ↔ Each (λ b. singlePair (instanceIn limits (now (t .entry))) (manifestAt (stacksIn limits (now (t .entry))) a)
+        (manifestAt (stacksIn limits (now (t .entry))) b) ≡ true) (a + 1) end ⌝ }
 {
     if row_word(rows, a, row::PLANT_DOCKS) != 2 {
         return true;

@@ -21,10 +21,10 @@ use Rattle.meaning.proofs.WellFormed.{meets-formed}
 use Rattle.meaning.proofs.Extents.{formed-ends}
 use Rattle.search.specs.Lowest.{lowestIn}
 use Rattle.search.proofs.Lowest.{lowest-members}
-use Rattle.visits.specs.declared.Block.{Block}
-use Rattle.visits.specs.Visits.{visitAt, block, HoldsRows, OneTruck, rowWord}
-use Rattle.visits.proofs.UsedTrucks.{block-place}
-use Rattle.visits.proofs.Reading.{word-is}
+use Rattle.manifest.specs.declared.Block.{Block}
+use Rattle.manifest.specs.Manifest.{manifestAt, block, HoldsRows, OneTruck, rowWord}
+use Rattle.manifest.proofs.UsedTrucks.{block-place}
+use Rattle.manifest.proofs.Reading.{word-is}
 use Rattle.pairrules.specs.PairRules.{inContactAt, Inside, EachTwo}
 use Rattle.pairrules.proofs.Places.{block-has, block-pairs}
 use Rattle.pairrules.proofs.Reading.{disjoint-is, contact-is, order-is}
@@ -57,7 +57,7 @@ module _ {m : Limits} {t rows : List ℕ} {on : Block} (h : HoldsRows m t rows) 
   extent : (k : ℕ) → k < on .end → rowWord rows k 4 < rowWord rows k 5
   extent k up =
       let there = stack-in h k (within k up) in
-      let long = formed-ends i (visitAt p k) (meets-formed m i p (h .filled .range) .stacks (visitAt p k) there) .long in
+      let long = formed-ends i (manifestAt p k) (meets-formed m i p (h .filled .range) .stacks (manifestAt p k) there) .long in
       rw (word-is h k (within k up) 4 (omega arith), word-is h k (within k up) 5 (omega arith)) long
 
   pub truck-rows : TruckRows rows on
@@ -70,10 +70,10 @@ module _ {m : Limits} {t rows : List ℕ} {on : Block} (h : HoldsRows m t rows) 
       }
 
   -- what braces a stack is another one, since a stack does not end where it begins
-  braced-by : (k j : ℕ) → Inside (on .start) (on .end) k → Inside (on .start) (on .end) j → inContactAt rows k j ≡ bracedBy i (visitAt p k) (visitAt p j)
+  braced-by : (k j : ℕ) → Inside (on .start) (on .end) k → Inside (on .start) (on .end) j → inContactAt rows k j ≡ bracedBy i (manifestAt p k) (manifestAt p j)
   braced-by k j a b =
-      let s = visitAt p k in
-      let r = visitAt p j in
+      let s = manifestAt p k in
+      let r = manifestAt p j in
       let lk = within k (a .1) in
       let lj = within j (b .1) in
       let contact = contact-is h k j lk lj in
@@ -99,15 +99,15 @@ module _ {m : Limits} {t rows : List ℕ} {on : Block} (h : HoldsRows m t rows) 
   in-places : (k : ℕ) → In k places ↔ Inside (on .start) (on .end) k
   in-places k = ((λ m. omega (arith, in-upFrom (on .start) (on .end - on .start) k .0 m)), (λ a. in-upFrom (on .start) (on .end - on .start) k .1 (omega arith)))
 
-  braced-is : (k : ℕ) → Inside (on .start) (on .end) k → bracedAt rows on k ≡ braced i stacks (visitAt p k)
+  braced-is : (k : ℕ) → Inside (on .start) (on .end) k → bracedAt rows on k ≡ braced i stacks (manifestAt p k)
   braced-is k a =
-      let s = visitAt p k in
+      let s = manifestAt p k in
       let front = word-is h k (within k (a .1)) 4 (omega arith) in
       let any-same = same-test (any (inContactAt rows k) places) (any (bracedBy i s) stacks) (
         (λ e.
             let w = any-reads (inContactAt rows k) places .0 e in
             let b = in-places (w .0) .0 (w .1) in
-            any-reads (bracedBy i s) stacks .1 (visitAt p (w .0), block-has one (w .0) b, sym (braced-by k (w .0) a b) ∙ w .2)),
+            any-reads (bracedBy i s) stacks .1 (manifestAt p (w .0), block-has one (w .0) b, sym (braced-by k (w .0) a b) ∙ w .2)),
         (λ e.
             let w = any-reads (bracedBy i s) stacks .0 e in
             let v = block-place one (w .0) (w .1) in
@@ -118,7 +118,7 @@ module _ {m : Limits} {t rows : List ℕ} {on : Block} (h : HoldsRows m t rows) 
 
   -- the same stacks are listed
   placed-at : (k : ℕ) → Inside (on .start) (on .end) k
-      → onlyIf (not (bracedAt rows on k)) (place (rowWord rows k 1) 0 0) ≡ onlyIf (not (braced i stacks (visitAt p k))) (place (number (visitAt p k)) 0 0)
+      → onlyIf (not (bracedAt rows on k)) (place (rowWord rows k 1) 0 0) ≡ onlyIf (not (braced i stacks (manifestAt p k))) (place (number (manifestAt p k)) 0 0)
   placed-at k a = ap₂ (λ (b : Bool) n. onlyIf (not b) (place n 0 0)) (braced-is k a) (word-is h k (within k (a .1)) 1 (omega arith))
 
   unbraced-same : lowestIn (unbracedPlaces rows on) ≡ lowestIn (stackPlaces braced noAmount i stacks)
@@ -127,7 +127,7 @@ module _ {m : Limits} {t rows : List ℕ} {on : Block} (h : HoldsRows m t rows) 
     (λ q n.
         let w = in-flatMap _ places q .0 n in
         let a = in-places (w .0) .0 (w .1) in
-        in-flatMap _ stacks q .1 (visitAt p (w .0), block-has one (w .0) a, subst (In q) (placed-at (w .0) a) (w .2))),
+        in-flatMap _ stacks q .1 (manifestAt p (w .0), block-has one (w .0) a, subst (In q) (placed-at (w .0) a) (w .2))),
     (λ q n.
         let w = in-flatMap _ stacks q .0 n in
         let v = block-place one (w .0) (w .1) in

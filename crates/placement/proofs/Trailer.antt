@@ -14,8 +14,8 @@ use Rattle.meaning.specs.Lists.{any, upFrom, In}
 use Rattle.meaning.proofs.Tests.{true≢false, and-reads, or-reads, or-false, fails}
 use Rattle.meaning.proofs.Lists.{any-reads, in-upFrom}
 use Rattle.views.specs.declared.Footprint.{Footprint}
-use Rattle.visits.specs.declared.Block.{Block}
-use Rattle.visits.specs.Visits.{rowWord, footprintAt}
+use Rattle.manifest.specs.declared.Block.{Block}
+use Rattle.manifest.specs.Manifest.{rowWord, footprintAt}
 use Rattle.pairrules.specs.PairRules.{disjointFootprints, footprintsInContact, disjointAt, inContactAt, inOrderAt, Each, placeAt}
 use Rattle.pairrules.proofs.Places.{Upto, upto-start, upto-kept, upto-broken, upto-all, same-told}
 use Rattle.pairrules.proofs.Sorted.{place-within, place-there, word-rising}

@@ -18,8 +18,8 @@ use Rattle.search.specs.declared.Found.{Found}
 use Rattle.search.specs.declared.Found.the-variants.{Nothing}
 use Rattle.search.specs.Lowest.{lowestIn, lowerFound}
 use Rattle.search.proofs.Lowest.{lowest-members, LowestFrom, from-start, from-more, from-end}
-use Rattle.visits.specs.declared.Block.{Block}
-use Rattle.visits.specs.Visits.{rowWord, footprintAt, rankAt}
+use Rattle.manifest.specs.declared.Block.{Block}
+use Rattle.manifest.specs.Manifest.{rowWord, footprintAt, rankAt}
 use Rattle.pairrules.specs.PairRules.{ranksBefore, disjointAt, inOrderAt, Inside, Each, EachTwo, placeAt}
 use Rattle.pairrules.proofs.Places.{behind-enough}
 use Rattle.pairrules.proofs.Sorted.{place-within, place-there, place-once, order-in, word-rising}

@@ -12,8 +12,8 @@ use Rattle.meaning.specs.Model.{Instance, Stack}
 use Rattle.meaning.specs.Places.{place}
 use Rattle.meaning.specs.Rules.{pairPlaces, stackPlaces, disjoint, braced, noAmount, inLoadingOrder}
 use Rattle.search.specs.Lowest.{lowestIn}
-use Rattle.visits.specs.declared.Block.{Block}
-use Rattle.visits.specs.Visits.{rowWord}
+use Rattle.manifest.specs.declared.Block.{Block}
+use Rattle.manifest.specs.Manifest.{rowWord}
 use Rattle.pairrules.specs.PairRules.{disjointAt, inContactAt, inOrderAt, EachTwo, SortedRows}
 use Rattle.placement.specs.declared.Placement.{Placement}
 

@@ -6,9 +6,13 @@ ghost use mathlib.Core.Logic.{_↔_};
 ghost use mathlib.Core.Bool.{true};
 ghost use Prim.Native.Nat.{_+_, _-_, _≤_, _<_};
 ghost use lib.ListN.{length};
-ghost use Rattle.visits.specs.Visits.{footprintAt};
+ghost use Rattle.manifest.specs.Manifest.{footprintAt};
 ghost use Rattle.pairrules.specs.PairRules.{disjointAt, inOrderAt, Each, EachTwo, placeAt};
 ghost use Rattle.placement.specs.Placed.{TruckRows, RowsByX, bracedAt, PlacedRows};
+use manifest::Block;
+use manifest::footprint_at;
+use manifest::row;
+use manifest::row_word;
 use pairrules::disjoint;
 use pairrules::in_contact;
 use pairrules::in_loading_order;
@@ -16,12 +20,8 @@ use pairrules::order_by;
 use search::Found;
 use search::lower_of;
 use search::place_if;
+use table::as_index;
 use views::Footprint;
-use visits::Block;
-use visits::as_index;
-use visits::footprint_at;
-use visits::row;
-use visits::row_word;
 
 pub struct Placement {
     pub apart: bool, // 23: no two overlap

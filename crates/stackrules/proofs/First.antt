@@ -26,8 +26,8 @@ use Rattle.rules.specs.declared.Rule.the-variants.{OfStacks, OfPairs, OfTrucks}
 use Rattle.rules.specs.declared.StackRule.{StackRule}
 use Rattle.rules.specs.declared.StackRule.the-variants.{EachItem, Docks, TopHeavy, TooMany, Dense, Outside}
 use Rattle.rules.specs.LoadingRules.{stackRulePlaces, rulePlaces, onStack, ruleCount, ruleAt}
-use Rattle.visits.specs.Visits.{visited}
-use Rattle.visits.proofs.Order.{visited-length, visited-perm}
+use Rattle.manifest.specs.Manifest.{inManifest}
+use Rattle.manifest.proofs.Order.{manifest-length, manifest-perm}
 use Rattle.stackrules.specs.declared.Breach.{Breach}
 use Rattle.stackrules.specs.StackRules.{noBreach, soonerOf, FirstOf}
 
@@ -60,12 +60,12 @@ module _ (i : Instance) (rule : Rule) (on : onStack rule ≡ true) where
       go (OfPairs rule) on = absurd (true≢false (sym on))
       go (OfTrucks rule) on = absurd (true≢false (sym on))
 
-  -- the stacks in visiting order
-  pub lowest-visited : (p : List Stack) → lowestIn (flatMap (λ (s : Stack). rulePlaces rule i (s ∷ [])) (visited p)) ≡ lowestIn (rulePlaces rule i p)
-  lowest-visited p =
+  -- the stacks in the manifest's order
+  pub lowest-listed : (p : List Stack) → lowestIn (flatMap (λ (s : Stack). rulePlaces rule i (s ∷ [])) (inManifest p)) ≡ lowestIn (rulePlaces rule i p)
+  lowest-listed p =
       let g : Stack → List Place = λ (s : Stack). rulePlaces rule i (s ∷ []) in
-      let same = perm-same (visited-perm p) in
-      lowest-members _ _ (flatMap-equal g g (visited p) p (same .1, same .0) (λ s. refl)) ∙ ap lowestIn (sym (alone p))
+      let same = perm-same (manifest-perm p) in
+      lowest-members _ _ (flatMap-equal g g (inManifest p) p (same .1, same .0) (λ s. refl)) ∙ ap lowestIn (sym (alone p))
 
 -- ---- the rules one after another
 -- the rules of the ranks below this one have no place
@@ -186,5 +186,5 @@ module _ {j : ℕ} {r : Breach} where
   pub entry-known : {i : Instance} {load : List ℕ} {g : ℕ → Rule → List Place} → LoadOfItems i load → FirstFrom g load j r → 0 < j → ItemNumber i (getD load (j - 1) 0)
   entry-known items h some = items .entries (j - 1) (omega (arith, h .upto))
 
-  pub visit-known : (p : List Stack) {g : Stack → Rule → List Place} → FirstFrom g (visited p) j r → 0 < j → j - 1 < length p
-  visit-known p h some = omega (arith, h .upto, visited-length p)
+  pub manifest-known : (p : List Stack) {g : Stack → Rule → List Place} → FirstFrom g (inManifest p) j r → 0 < j → j - 1 < length p
+  manifest-known p h some = omega (arith, h .upto, manifest-length p)

@@ -16,9 +16,13 @@ ghost use Rattle.table.specs.Filled.{Filled, stackAt, ItemNumber};
 ghost use Rattle.search.specs.Lowest.{lowestIn};
 ghost use Rattle.rules.specs.declared.Rule.the-variants.{OfStacks};
 ghost use Rattle.rules.specs.LoadingRules.{itemTest, stackRulePlaces, ruleCount, ruleAt};
-ghost use Rattle.visits.specs.Visits.{visitAt, HoldsRows};
+ghost use Rattle.manifest.specs.Manifest.{manifestAt, HoldsRows};
 ghost use Rattle.stackrules.specs.StackRules.{everyItemTest, OwnRulesKept, withItem, noBreach, soonerOf, FirstOf, FirstOnStacks};
 ghost use Rattle.stackrules.specs.StackRules.{Countable, Counted, Tally};
+use manifest::footprint_at;
+use manifest::row;
+use manifest::row_word;
+use manifest::stack_at;
 use meaning::Limits;
 use meaning::Place;
 use rules::ItemRule;
@@ -70,10 +74,6 @@ use views::read_size;
 use views::stack_truck_field;
 use views::supplier_dock_order;
 use views::supplier_order;
-use visits::footprint_at;
-use visits::row;
-use visits::row_word;
-use visits::stack_at;
 
 // ---- 9, not once
 
@@ -246,7 +246,7 @@ fn item_keeps_rules(t: &[u32], limits: Limits, s: usize, n: u32) -> bool
 fn docks_place(t: &[u32], limits: Limits, rows: &[u32], k: usize) -> Found
     requires { ⌜ HoldsRows limits (now t) (now rows) × (k < length (stacksIn limits (now t))) ⌝ }
     ensures { λ r. ⌜ r ≡ lowestIn (stackRulePlaces StackRule.Docks (instanceIn limits (now (t .entry)))
-        (visitAt (stacksIn limits (now (t .entry))) k ∷ [])) ⌝ }
+        (manifestAt (stacksIn limits (now (t .entry))) k ∷ [])) ⌝ }
 {
     let count = row_word(rows, k, row::PLANT_DOCKS);
     let two_docks = truck_field(t, limits, row_word(rows, k, row::TRUCK), TF) == 1;
@@ -260,7 +260,7 @@ fn docks_place(t: &[u32], limits: Limits, rows: &[u32], k: usize) -> Found
 fn top_heavy_place(t: &[u32], limits: Limits, rows: &[u32], k: usize) -> Found
     requires { ⌜ HoldsRows limits (now t) (now rows) × (k < length (stacksIn limits (now t))) ⌝ }
     ensures { λ r. ⌜ r ≡ lowestIn (stackRulePlaces StackRule.TopHeavy (instanceIn limits (now (t .entry)))
-        (visitAt (stacksIn limits (now (t .entry))) k ∷ [])) ⌝ }
+        (manifestAt (stacksIn limits (now (t .entry))) k ∷ [])) ⌝ }
 {
     let items = load(t, limits, stack_at(rows, k));
     let above = load_sum(t, limits, items, 1, IM);
@@ -272,7 +272,7 @@ fn top_heavy_place(t: &[u32], limits: Limits, rows: &[u32], k: usize) -> Found
 fn too_many_place(t: &[u32], limits: Limits, rows: &[u32], k: usize) -> Found
     requires { ⌜ HoldsRows limits (now t) (now rows) × (k < length (stacksIn limits (now t))) ⌝ }
     ensures { λ r. ⌜ r ≡ lowestIn (stackRulePlaces StackRule.TooMany (instanceIn limits (now (t .entry)))
-        (visitAt (stacksIn limits (now (t .entry))) k ∷ [])) ⌝ }
+        (manifestAt (stacksIn limits (now (t .entry))) k ∷ [])) ⌝ }
 {
     let items = load(t, limits, stack_at(rows, k));
     let count = items.len() as u32;
@@ -292,7 +292,7 @@ fn density_kept(weight: u32, limit: u32, length: u32, width: u32) -> bool
 fn dense_place(t: &[u32], limits: Limits, rows: &[u32], k: usize) -> Found
     requires { ⌜ HoldsRows limits (now t) (now rows) × (k < length (stacksIn limits (now t))) ⌝ }
     ensures { λ r. ⌜ r ≡ lowestIn (stackRulePlaces StackRule.Dense (instanceIn limits (now (t .entry)))
-        (visitAt (stacksIn limits (now (t .entry))) k ∷ [])) ⌝ }
+        (manifestAt (stacksIn limits (now (t .entry))) k ∷ [])) ⌝ }
 {
     let s = stack_at(rows, k);
     let weight = row_word(rows, k, row::WEIGHT);
@@ -323,7 +323,7 @@ fn exceeded_side(length: bool, width: bool) -> u32
 fn outside_place(t: &[u32], limits: Limits, rows: &[u32], k: usize) -> Found
     requires { ⌜ HoldsRows limits (now t) (now rows) × (k < length (stacksIn limits (now t))) ⌝ }
     ensures { λ r. ⌜ r ≡ lowestIn (stackRulePlaces StackRule.Outside (instanceIn limits (now (t .entry)))
-        (visitAt (stacksIn limits (now (t .entry))) k ∷ [])) ⌝ }
+        (manifestAt (stacksIn limits (now (t .entry))) k ∷ [])) ⌝ }
 {
     let number = row_word(rows, k, row::NUMBER);
     let truck = row_word(rows, k, row::TRUCK);
@@ -340,7 +340,7 @@ fn outside_place(t: &[u32], limits: Limits, rows: &[u32], k: usize) -> Found
 // Whether the stack at place k keeps every rule on the stack itself.
 fn own_rules_kept(t: &[u32], limits: Limits, rows: &[u32], k: usize) -> bool
     requires { ⌜ HoldsRows limits (now t) (now rows) × (k < length (stacksIn limits (now t))) ⌝ }
-    ensures { λ r. ⌜ (r ≡ true) ↔ OwnRulesKept (instanceIn limits (now (t .entry))) (visitAt (stacksIn limits (now (t .entry))) k) ⌝ }
+    ensures { λ r. ⌜ (r ≡ true) ↔ OwnRulesKept (instanceIn limits (now (t .entry))) (manifestAt (stacksIn limits (now (t .entry))) k) ⌝ }
 {
     let docks = is_nothing(docks_place(t, limits, rows, k));
     let top = is_nothing(top_heavy_place(t, limits, rows, k));
@@ -393,7 +393,7 @@ fn sooner(a: Breach, b: Breach) -> Breach
 // Where the stack at place k breaks a rule on itself, or with its item n a rule on items.
 fn stack_place(rule: StackRule, t: &[u32], limits: Limits, rows: &[u32], k: usize, n: u32) -> Found
     requires { ⌜ HoldsRows limits (now t) (now rows) × (k < length (stacksIn limits (now t))) × ItemNumber (instanceIn limits (now t)) n ⌝ }
-    ensures { λ r. ⌜ r ≡ lowestIn (withItem (instanceIn limits (now (t .entry))) (visitAt (stacksIn limits (now (t .entry))) k) n (OfStacks rule)) ⌝ }
+    ensures { λ r. ⌜ r ≡ lowestIn (withItem (instanceIn limits (now (t .entry))) (manifestAt (stacksIn limits (now (t .entry))) k) n (OfStacks rule)) ⌝ }
 {
     match rule {
         StackRule::EachItem(each) => {
@@ -411,7 +411,7 @@ fn stack_place(rule: StackRule, t: &[u32], limits: Limits, rows: &[u32], k: usiz
 // The same for the rule of a rank; a rule on pairs or on trucks has no place here.
 fn rank_place(rank: usize, t: &[u32], limits: Limits, rows: &[u32], k: usize, n: u32) -> Found
     requires { ⌜ HoldsRows limits (now t) (now rows) × (k < length (stacksIn limits (now t))) × ItemNumber (instanceIn limits (now t)) n × (rank < ruleCount) ⌝ }
-    ensures { λ r. ⌜ r ≡ lowestIn (withItem (instanceIn limits (now (t .entry))) (visitAt (stacksIn limits (now (t .entry))) k) n (ruleAt rank)) ⌝ }
+    ensures { λ r. ⌜ r ≡ lowestIn (withItem (instanceIn limits (now (t .entry))) (manifestAt (stacksIn limits (now (t .entry))) k) n (ruleAt rank)) ⌝ }
 {
     let rule = rule_at(rank);
     match rule {
@@ -424,7 +424,7 @@ fn rank_place(rank: usize, t: &[u32], limits: Limits, rows: &[u32], k: usize, n:
 // The first rule that the stack at place k breaks by itself or with its item n.
 fn breach_with_item(t: &[u32], limits: Limits, rows: &[u32], k: usize, n: u32) -> Breach
     requires { ⌜ HoldsRows limits (now t) (now rows) × (k < length (stacksIn limits (now t))) × ItemNumber (instanceIn limits (now t)) n ⌝ }
-    ensures { λ r. ⌜ FirstOf (withItem (instanceIn limits (now (t .entry))) (visitAt (stacksIn limits (now (t .entry))) k) n) r ⌝ }
+    ensures { λ r. ⌜ FirstOf (withItem (instanceIn limits (now (t .entry))) (manifestAt (stacksIn limits (now (t .entry))) k) n) r ⌝ }
 {
     let mut rank = 0;
     while rank < RULES {
@@ -442,7 +442,7 @@ fn breach_with_item(t: &[u32], limits: Limits, rows: &[u32], k: usize, n: u32) -
 // as they mostly are.
 fn stack_breach(t: &[u32], limits: Limits, rows: &[u32], k: usize) -> Breach
     requires { ⌜ HoldsRows limits (now t) (now rows) × (k < length (stacksIn limits (now t))) ⌝ }
-    ensures { λ r. ⌜ FirstOnStacks (instanceIn limits (now (t .entry))) (visitAt (stacksIn limits (now (t .entry))) k ∷ []) r ⌝ }
+    ensures { λ r. ⌜ FirstOnStacks (instanceIn limits (now (t .entry))) (manifestAt (stacksIn limits (now (t .entry))) k ∷ []) r ⌝ }
 {
     let own = own_rules_kept(t, limits, rows, k);
     let s = stack_at(rows, k);

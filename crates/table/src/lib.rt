@@ -93,7 +93,7 @@ pub fn clear(words: &mut [u32])
 // ---- the words of the table, part by part. These need room for the named words and no more
 
 // A word as a count or a place.
-fn as_index(word: u32) -> usize
+pub fn as_index(word: u32) -> usize
     ensures { λ r. ⌜ (r ≡ word) × (r < 4294967296) ⌝ }
 {
     word as usize

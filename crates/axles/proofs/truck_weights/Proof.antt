@@ -5,9 +5,9 @@ use lib.ListN.{length}
 use Rattle.meaning.specs.Measures.{UsedTruck, usedBy}
 use Rattle.meaning.specs.Table.{instanceIn, stacksIn}
 use Rattle.table.specs.Filled.{TruckNumber}
-use Rattle.visits.specs.Visits.{visitAt}
+use Rattle.manifest.specs.Manifest.{manifestAt}
 use Rattle.axles.specs.Weights.{BoundedRows, BoundedAxles, middleUnder, rearUnder}
-use Rattle.visits.proofs.Reading.{word-is, truck-is}
+use Rattle.manifest.proofs.Reading.{word-is, truck-is}
 use Rattle.axles.proofs.Rows.{rows-bounded, axles-bounded}
 use Rattle.axles.proofs.Departures.{AxleFrom, axle-start, axle-more, lowest-are}
 use borrow.Author.Needs.{needs}
@@ -27,7 +27,7 @@ abbrev μ-loop : tie.MeasureT-loop
 known : (c : tie.After-row-word Inv-loop μ-loop) →
     let a = c .before .before .before .args in
     let i = instanceIn (a .limits) (a .t .now) in
-    (c .row-word .result ≡ usedBy (visitAt (stacksIn (a .limits) (a .t .now)) (a .on .start)) .truck) × TruckNumber i (c .row-word .result)
+    (c .row-word .result ≡ usedBy (manifestAt (stacksIn (a .limits) (a .t .now)) (a .on .start)) .truck) × TruckNumber i (c .row-word .result)
 known c =
     let s = c .before .before .before in
     rw (c .row-word .ensures) (truck-is (s .pre .0) (s .args .on .start) (omega (arith, s .pre .1 .some, s .pre .1 .within)))

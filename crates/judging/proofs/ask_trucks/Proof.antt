@@ -5,7 +5,7 @@ use Rattle.judging.proofs.Told.{Told, told-start, told-more, told-end, 
 use lib.ListN.{length}
 use mathlib.Core.Path.{_≡_, refl, _∙_}
 use native.Mathlib.Omega.{arith}
-use Rattle.visits.specs.Visits.{block}
+use Rattle.manifest.specs.Manifest.{block}
 use Rattle.placement.proofs.Placing.{truck-rows, placed-stacks}
 use Rattle.judging.proofs.ask_trucks.Statement.{statement}
 use Rattle.judging.proofs.ask_trucks.Tie as tie

@@ -28,8 +28,8 @@ returns c =
 enum-told : tie.Need-enum-told
 enum-told c = search needs
 
-visit-stacks-requires : tie.Need-visit-stacks-requires
-visit-stacks-requires c κs = search needs
+write-manifest-requires : tie.Need-write-manifest-requires
+write-manifest-requires c κs = search needs
 
 judge-loading-requires : tie.Need-judge-loading-requires
 judge-loading-requires c κs = search needs
@@ -46,8 +46,8 @@ same-length-4 c = search needs
 returns-2 : tie.Need-returns-2
 returns-2 c =
     let judged = c .before .before .before .before in
-    let visited = judged .before .before .before .before .before .before .before .before .before .before in
-    let none = visited .before .before .before .before in
+    let inManifest = judged .before .before .before .before .before .before .before .before .before .before in
+    let none = inManifest .before .before .before .before in
     let once = none .before .before .before .before in
     let entry = once .before .before .before .before .before .before .args in
     judged .judge-loading .ensures
@@ -63,7 +63,7 @@ judge-spec =
     same-length
     returns
     enum-told
-    visit-stacks-requires
+    write-manifest-requires
     judge-loading-requires
     same-length-2
     same-length-3

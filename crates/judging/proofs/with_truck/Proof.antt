@@ -6,8 +6,8 @@ use native.Mathlib.Omega.{arith}
 use Rattle.meaning.specs.Measures.{usedBy}
 use Rattle.meaning.specs.Table.{instanceIn, stacksIn}
 use Rattle.meaning.specs.Verdict.{transportCost}
-use Rattle.visits.specs.Visits.{visitAt}
-use Rattle.visits.proofs.Reading.{word-is, truck-is}
+use Rattle.manifest.specs.Manifest.{manifestAt}
+use Rattle.manifest.proofs.Reading.{word-is, truck-is}
 use Rattle.judging.proofs.Cost.{cost-used}
 use Rattle.judging.proofs.with_truck.Statement.{statement}
 use Rattle.judging.proofs.with_truck.Tie as tie
@@ -39,7 +39,7 @@ returns c =
     let start = truck .before .before .before in
     let a = start .args in
     let i = instanceIn (a .limits) (a .t .now) in
-    let s = visitAt (stacksIn (a .limits) (a .t .now)) (a .start) in
+    let s = manifestAt (stacksIn (a .limits) (a .t .now)) (a .start) in
     let is : cost .truck-cost .result ≡ transportCost i (usedBy s) =
     cost-used i s (cost .truck-cost .ensures .0) (truck .row-word .ensures ∙ truck-is (start .pre .0) (a .start) (start .pre .1) .0)
     (copy .row-word2 .ensures ∙ word-is (start .pre .0) (a .start) (start .pre .1) 3 (omega arith))

@@ -6,7 +6,7 @@ use native.Mathlib.Omega.{arith}
 use borrow.Author.Needs.{needs}
 use Rattle.meaning.specs.Rules.{singlePair}
 use Rattle.meaning.specs.Table.{instanceIn, stacksIn}
-use Rattle.visits.specs.Visits.{visitAt}
+use Rattle.manifest.specs.Manifest.{manifestAt}
 use Rattle.pairrules.proofs.Places.{Upto, upto-start, upto-kept, upto-broken, upto-all, same-told}
 use Rattle.pairrules.proofs.Pairs.{first-not-two}
 use Rattle.pairrules.proofs.Reading.{docks-are}
@@ -15,7 +15,7 @@ use Rattle.pairrules.proofs.is_single_behind.Tie as tie
 
 abbrev Inv-loop : tie.InvT-loop
 Inv-loop t limits rows a end b₀ b =
-    Upto (λ k. singlePair (instanceIn limits t) (visitAt (stacksIn limits t) a) (visitAt (stacksIn limits t) k) ≡ true) (a + 1) end b
+    Upto (λ k. singlePair (instanceIn limits t) (manifestAt (stacksIn limits t) a) (manifestAt (stacksIn limits t) k) ≡ true) (a + 1) end b
 
 abbrev μ-loop : tie.MeasureT-loop
 μ-loop t limits rows a end b₀ b = end - b

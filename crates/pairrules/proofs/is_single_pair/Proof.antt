@@ -2,7 +2,7 @@
 use mathlib.Core.Path.{_∙_}
 use native.Mathlib.Omega.{arith}
 use borrow.Author.Needs.{needs}
-use Rattle.visits.proofs.Reading.{index-within}
+use Rattle.manifest.proofs.Reading.{index-within}
 use Rattle.pairrules.proofs.Pairs.{first-not-two, second-not-two, both-two}
 use Rattle.pairrules.proofs.Reading.{docks-are, code-is}
 use Rattle.pairrules.proofs.is_single_pair.Statement.{statement}

@@ -7,7 +7,7 @@ use borrow.Author.Needs.{needs}
 use Rattle.meaning.specs.Rules.{singlePair}
 use Rattle.meaning.specs.Table.{instanceIn, stacksIn}
 use Rattle.meaning.proofs.Tests.{iff-trans}
-use Rattle.visits.specs.Visits.{visitAt}
+use Rattle.manifest.specs.Manifest.{manifestAt}
 use Rattle.pairrules.specs.PairRules.{Each}
 use Rattle.pairrules.proofs.Places.{Upto, upto-start, upto-kept, upto-broken, upto-all}
 use Rattle.pairrules.proofs.Pairs.{single-block}
@@ -16,7 +16,7 @@ use Rattle.pairrules.proofs.keeps_single_pair.Tie as tie
 
 abbrev Inv-loop : tie.InvT-loop
 Inv-loop t limits rows end start a =
-    Upto (λ j. Each (λ k. singlePair (instanceIn limits t) (visitAt (stacksIn limits t) j) (visitAt (stacksIn limits t) k) ≡ true) (j + 1) end) start end a
+    Upto (λ j. Each (λ k. singlePair (instanceIn limits t) (manifestAt (stacksIn limits t) j) (manifestAt (stacksIn limits t) k) ≡ true) (j + 1) end) start end a
 
 abbrev μ-loop : tie.MeasureT-loop
 μ-loop t limits rows end start a = end - a

@@ -1,7 +1,7 @@
 -- `placement::footprint_along`: the row at the k-th place is there.
 use mathlib.Core.Path.{ap, _∙_}
 use borrow.Author.Needs.{needs}
-use Rattle.visits.specs.Visits.{footprintAt}
+use Rattle.manifest.specs.Manifest.{footprintAt}
 use Rattle.placement.proofs.Trailer.{nth-room}
 use Rattle.placement.proofs.footprint_along.Statement.{statement}
 use Rattle.placement.proofs.footprint_along.Tie as tie

@@ -3,7 +3,7 @@ use Prim.Native.Nat.{_-_}
 use borrow.Author.Needs.{needs}
 use Rattle.meaning.specs.Table.{instanceIn, stacksIn}
 use Rattle.rules.specs.LoadingRules.{ruleCount}
-use Rattle.visits.specs.Visits.{visitAt}
+use Rattle.manifest.specs.Manifest.{manifestAt}
 use Rattle.stackrules.specs.StackRules.{withItem}
 use Rattle.stackrules.proofs.Items.{found-on-stack}
 use Rattle.stackrules.proofs.First.{KeptTo, kept-none, kept-more, kept-broken, kept-all}
@@ -11,7 +11,7 @@ use Rattle.stackrules.proofs.breach_with_item.Statement.{statement}
 use Rattle.stackrules.proofs.breach_with_item.Tie as tie
 
 abbrev Inv-loop : tie.InvT-loop
-Inv-loop t limits rows k n rank₀ rank = KeptTo (withItem (instanceIn limits t) (visitAt (stacksIn limits t) k) n) rank
+Inv-loop t limits rows k n rank₀ rank = KeptTo (withItem (instanceIn limits t) (manifestAt (stacksIn limits t) k) n) rank
 
 abbrev μ-loop : tie.MeasureT-loop
 μ-loop t limits rows k n rank₀ rank = ruleCount - rank

@@ -1,7 +1,7 @@
 -- `stackrules::dense_place`: the test compares the products of rule 21.
 use native.Mathlib.Omega.{arith}
 use borrow.Author.Needs.{needs}
-use Rattle.visits.proofs.Reading.{word-most}
+use Rattle.manifest.proofs.Reading.{word-most}
 use Rattle.stackrules.proofs.Stacks.{stack-there, truck-there, dense-is}
 use Rattle.stackrules.proofs.dense_place.Statement.{statement}
 use Rattle.stackrules.proofs.dense_place.Tie as tie

@@ -1,7 +1,7 @@
 -- `stackrules::docks_place`: two plant docks are consecutive exactly when the range of their orders says so.
 use native.Mathlib.Omega.{arith}
 use borrow.Author.Needs.{needs}
-use Rattle.visits.proofs.Reading.{word-most}
+use Rattle.manifest.proofs.Reading.{word-most}
 use Rattle.stackrules.proofs.Stacks.{truck-there, docks-is}
 use Rattle.stackrules.proofs.docks_place.Statement.{statement}
 use Rattle.stackrules.proofs.docks_place.Tie as tie

@@ -4,7 +4,7 @@ use borrow.Author.Needs.{needs}
 use Rattle.meaning.specs.Table.{instanceIn, stacksIn}
 use Rattle.rules.specs.declared.StackRule.the-variants.{Docks, TopHeavy, TooMany, Dense, Outside}
 use Rattle.rules.specs.LoadingRules.{stackRulePlaces}
-use Rattle.visits.specs.Visits.{visitAt}
+use Rattle.manifest.specs.Manifest.{manifestAt}
 use Rattle.stackrules.proofs.Kept.{nothing-told, own-kept}
 use Rattle.stackrules.proofs.own_rules_kept.Statement.{statement}
 use Rattle.stackrules.proofs.own_rules_kept.Tie as tie
@@ -18,7 +18,7 @@ returns c =
     let docks = top .before .before in
     let a = docks .before .before .before .args in
     let i = instanceIn (a .limits) (a .t .now) in
-    let s = visitAt (stacksIn (a .limits) (a .t .now)) (a .k) in
+    let s = manifestAt (stacksIn (a .limits) (a .t .now)) (a .k) in
     own-kept i s (nothing-told (stackRulePlaces Docks i (s ∷ [])) (docks .docks-place .ensures) (top .before .is-nothing .ensures))
     (nothing-told (stackRulePlaces TopHeavy i (s ∷ [])) (top .top-heavy-place .ensures) (many .before .is-nothing2 .ensures))
     (nothing-told (stackRulePlaces TooMany i (s ∷ [])) (many .too-many-place .ensures) (dense .before .is-nothing3 .ensures))

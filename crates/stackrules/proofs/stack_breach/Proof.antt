@@ -3,7 +3,7 @@ use mathlib.Core.Path.{refl}
 use native.Mathlib.Omega.{arith}
 use borrow.Author.Needs.{needs}
 use Rattle.meaning.specs.Table.{instanceIn, stacksIn}
-use Rattle.visits.specs.Visits.{visitAt}
+use Rattle.manifest.specs.Manifest.{manifestAt}
 use Rattle.stackrules.specs.StackRules.{withItem}
 use Rattle.stackrules.proofs.Items.{load-places}
 use Rattle.stackrules.proofs.Stacks.{stack-there, stack-same}
@@ -13,7 +13,7 @@ use Rattle.stackrules.proofs.stack_breach.Statement.{statement}
 use Rattle.stackrules.proofs.stack_breach.Tie as tie
 
 abbrev Inv-loop : tie.InvT-loop
-Inv-loop t limits rows k own s items first₀ j₀ first j = FirstFrom (withItem (instanceIn limits t) (visitAt (stacksIn limits t) k)) items j first
+Inv-loop t limits rows k own s items first₀ j₀ first j = FirstFrom (withItem (instanceIn limits t) (manifestAt (stacksIn limits t) k)) items j first
 
 abbrev μ-loop : tie.MeasureT-loop
 μ-loop t limits rows k own s items first₀ j₀ first j = j
