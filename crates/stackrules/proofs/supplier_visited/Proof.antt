@@ -17,5 +17,5 @@ returns c =
     order-listed (truckOf i (stackAt (stacksIn (a .limits) (a .t .now)) (a .s)) .suppliers) (IU (item i (a .n)))
     (ap (λ n. truckNumbered i n .suppliers) (truck .stack-truck .ensures .0)) (field .item-field .ensures .0) (c .supplier-order .ensures .0)
 
-pub supplier-manifest-spec : {M : Type 1} → statement M
-supplier-manifest-spec = tie.close (tie.spec (λ c κs. search needs) (λ c κs. search needs) (λ c κs. search needs) returns)
+pub supplier-visited-spec : {M : Type 1} → statement M
+supplier-visited-spec = tie.close (tie.spec (λ c κs. search needs) (λ c κs. search needs) (λ c κs. search needs) returns)
