@@ -1,8 +1,20 @@
 -- `judging::judge_loading`: the first rule that the survey tells to be broken refuses, by its kind.
 use borrow.Author.Needs.{needs}
-use mathlib.Core.Path.{ap, _∙_}
+use mathlib.Core.Path.{_≡_, ap, _∙_}
+use mathlib.Core.List.{List}
+use Prim.Native.Nat.{_<_}
+use lib.ListN.{length}
 use Rattle.meaning.specs.Table.{instanceIn, stacksIn}
-use Rattle.meaning.specs.Verdict.{refusal}
+use Rattle.meaning.specs.declared.Answer.{Answer}
+use Rattle.meaning.specs.declared.Place.{Place}
+use Rattle.meaning.specs.Measures.{usedTrucks}
+use Rattle.meaning.specs.Model.{Instance, Stack}
+use Rattle.meaning.specs.Rules.{loadingRules}
+use Rattle.meaning.specs.Verdict.{refusal, firstBroken, acceptance, cost}
+use Rattle.search.specs.Lowest.{lowestIn}
+use Rattle.search.specs.declared.Found.the-variants.{At}
+use Rattle.rules.specs.LoadingRules.{rulePlaces, ruleCount, ruleAt}
+use Rattle.judging.specs.Judging.{SurveyOf}
 use Rattle.rules.proofs.Ranks.{all-kept}
 use Rattle.judging.proofs.Verdicts.{rank-inside, stack-broken, pair-broken, truck-broken, refused}
 use Rattle.judging.proofs.judge_loading.Statement.{statement}
@@ -68,19 +80,39 @@ same-length-3 c = search needs
 same-length-4 : tie.Need-same-length-4
 same-length-4 c = search needs
 
+-- where a rule is broken: what the survey told, of which plan
+abbrev test : tie.After-rule-at → tie.Else1
+test c = c .before .before .before .before
+
+abbrev survey : tie.After-rule-at → tie.After-survey-plan
+survey c = test c .before .before .before .before .before
+
+abbrev entry : tie.After-rule-at → tie.Start
+entry c = survey c .before .before .before .before .before .before .before
+
+abbrev instance : tie.After-rule-at → Instance
+instance c = let a = entry c .args in instanceIn (a .limits) (a .t .now)
+
+abbrev stacks : tie.After-rule-at → List Stack
+stacks c = let a = entry c .args in stacksIn (a .limits) (a .t .now)
+
+told : (c : tie.After-rule-at) → SurveyOf (instance c) (stacks c) (survey c .survey-plan .result)
+told c = survey c .survey-plan .ensures .0
+
+inside : (c : tie.After-rule-at) → survey c .survey-plan .result .rank < ruleCount
+inside c = rank-inside (told c) (test c .if1 .left)
+
+refused-by : (c : tie.After-rule-at) {a : Answer} {q : Place} → a ≡ refusal (c .before .verdict-at .result) q
+    → At q ≡ lowestIn (rulePlaces (ruleAt (survey c .survey-plan .result .rank)) (instance c) (stacks c))
+    → a ≡ firstBroken loadingRules (instance c) (stacks c) (acceptance (cost (instance c) (stacks c)) (length (usedTrucks (stacks c))))
+refused-by c e low = refused (instance c) (stacks c) (told c) (inside c) _ e (c .before .verdict-at .ensures) low
+
 returns-2 : tie.Need-returns-2
 returns-2 c =
-    let rule = c .before .before .before in
-    let verdict = rule .before in
-    let test = verdict .before .before .before in
-    let survey = test .before .before .before .before .before in
-    let entry = survey .before .before .before .before .before .before .before .args in
-    let told = survey .survey-plan .ensures .0 in
-    let i = instanceIn (entry .limits) (entry .t .now) in
-    let p = stacksIn (entry .limits) (entry .t .now) in
-    let inside = rank-inside told (test .if1 .left) in
-    refused i p told inside _ (c .refuse .ensures) (verdict .verdict-at .ensures)
-    (stack-broken i p told inside _ (rule .rule-at .ensures) (c .before .enum-told .given .1))
+    let arm = c .before in
+    let rule = arm .before .before in
+    refused-by rule (c .refuse .ensures)
+    (stack-broken (instance rule) (stacks rule) (told rule) (inside rule) _ (rule .rule-at .ensures) (arm .enum-told .given .1))
 
 same-length-5 : tie.Need-same-length-5
 same-length-5 c = search needs
@@ -94,16 +126,8 @@ returns-3 c =
     let lowest = place .before .before .before .before .before in
     let arm = lowest .before .before .before .before in
     let rule = arm .before .before in
-    let verdict = rule .before in
-    let test = verdict .before .before .before in
-    let survey = test .before .before .before .before .before in
-    let entry = survey .before .before .before .before .before .before .before .args in
-    let told = survey .survey-plan .ensures .0 in
-    let i = instanceIn (entry .limits) (entry .t .now) in
-    let p = stacksIn (entry .limits) (entry .t .now) in
-    let inside = rank-inside told (test .if1 .left) in
-    refused i p told inside _ (c .refuse2 .ensures ∙ ap (refusal (verdict .verdict-at .result)) (place .place-in .ensures)) (verdict .verdict-at .ensures)
-    (pair-broken i p told inside _ (rule .rule-at .ensures) (arm .rule .given .1) (lowest .lowest-pair .ensures))
+    refused-by rule (c .refuse2 .ensures ∙ ap (refusal (rule .before .verdict-at .result)) (place .place-in .ensures))
+    (pair-broken (instance rule) (stacks rule) (told rule) (inside rule) _ (rule .rule-at .ensures) (arm .rule .given .1) (lowest .lowest-pair .ensures))
 
 same-length-7 : tie.Need-same-length-7
 same-length-7 c = search needs
@@ -117,16 +141,8 @@ returns-4 c =
     let found = place .before in
     let arm = found .before .before in
     let rule = arm .before .before in
-    let verdict = rule .before in
-    let test = verdict .before .before .before in
-    let survey = test .before .before .before .before .before in
-    let entry = survey .before .before .before .before .before .before .before .args in
-    let told = survey .survey-plan .ensures .0 in
-    let i = instanceIn (entry .limits) (entry .t .now) in
-    let p = stacksIn (entry .limits) (entry .t .now) in
-    let inside = rank-inside told (test .if1 .left) in
-    refused i p told inside _ (c .refuse3 .ensures ∙ ap (refusal (verdict .verdict-at .result)) (place .place-in2 .ensures)) (verdict .verdict-at .ensures)
-    (truck-broken i p told inside _ (rule .rule-at .ensures) (arm .rule2 .given .1) (found .truck-found .ensures))
+    refused-by rule (c .refuse3 .ensures ∙ ap (refusal (rule .before .verdict-at .result)) (place .place-in2 .ensures))
+    (truck-broken (instance rule) (stacks rule) (told rule) (inside rule) _ (rule .rule-at .ensures) (arm .rule2 .given .1) (found .truck-found .ensures))
 
 pub judge-loading-spec : {M : Type 1} → statement M
 judge-loading-spec =
