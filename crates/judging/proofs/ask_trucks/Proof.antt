@@ -5,7 +5,7 @@ use Rattle.judging.proofs.Told.{Told, told-start, told-more, told-end, 
 use lib.ListN.{length}
 use mathlib.Core.Path.{_≡_, refl, _∙_}
 use native.Mathlib.Omega.{arith}
-use Rattle.manifest.specs.Manifest.{block}
+use Rattle.manifest.specs.Manifest.{block, HoldsRows, OneTruck, Parted}
 use Rattle.placement.proofs.Placing.{truck-rows, placed-stacks}
 use Rattle.judging.proofs.ask_trucks.Statement.{statement}
 use Rattle.judging.proofs.ask_trucks.Tie as tie
@@ -25,55 +25,58 @@ stack-count-requires c κs = search needs
 loop-holds : tie.Need-loop-holds Inv-loop μ-loop
 loop-holds c = (told-start (c .stack-count .ensures .0), refl, refl)
 
+-- the call, and the used truck of a turn
+abbrev entry : tie.At-loop Inv-loop μ-loop → tie.Start Inv-loop μ-loop
+entry loop = loop .before .before .before .before .before .before
+
+abbrev begun : tie.After-joined-placement Inv-loop μ-loop → tie.After-truck-start Inv-loop μ-loop
+begun placed = placed .before .before .before .before .before .before .before .before .before
+
+held : (loop : tie.At-loop Inv-loop μ-loop) → let a = entry loop .args in HoldsRows (a .limits) (a .t .now) (a .rows .now)
+held loop = entry loop .pre .0
+
+one : (c : tie.After-truck-start Inv-loop μ-loop)
+    → let a = entry (c .before .before) .args in
+    OneTruck (stacksIn (a .limits) (a .t .now)) (c .truck-start .result) (c .before .before .loop .end) × Parted (stacksIn (a .limits) (a .t .now)) (c .truck-start .result)
+one c = let loop = c .before .before in one-truck (held loop) (loop .loop .inv .0) (c .truck-start .ensures)
+
 truck-start-requires : tie.Need-truck-start-requires Inv-loop μ-loop
 truck-start-requires c κs =
     let loop = c .before in
-    let entry = loop .before .before .before .before .before .before in
-    (c .loop-test .taken, omega (arith, loop .loop .inv .0 .counted .within, entry .pre .0 .room))
+    (c .loop-test .taken, omega (arith, loop .loop .inv .0 .counted .within, held loop .room))
 
 asked-single-pair-requires : tie.Need-asked-single-pair-requires Inv-loop μ-loop
-asked-single-pair-requires c κs =
-    let loop = c .before .before in
-    let held = loop .before .before .before .before .before .before .pre .0 in
-    (held, one-truck held (loop .loop .inv .0) (c .truck-start .ensures) .0)
+asked-single-pair-requires c κs = (held (c .before .before), one c .0)
 
 asked-placement-requires : tie.Need-asked-placement-requires Inv-loop μ-loop
 asked-placement-requires c κs =
     let start = c .before .before .before in
     let loop = start .before .before in
-    let entry = loop .before .before .before .before .before .before in
-    let one = one-truck (entry .pre .0) (loop .loop .inv .0) (start .truck-start .ensures) .0 in
-    (truck-rows (entry .pre .0) one, omega (arith, loop .loop .inv .1, one .within, entry .pre .1), omega (arith, loop .loop .inv .2, one .within, entry .pre .2))
+    let within = one start .0 .within in
+    let room = entry loop .pre in
+    (truck-rows (held loop) (one start .0), omega (arith, loop .loop .inv .1, within, room .1), omega (arith, loop .loop .inv .2, within, room .2))
 
 joined-placement-requires : tie.Need-joined-placement-requires Inv-loop μ-loop
 joined-placement-requires c κs = search needs
 
 asked-weights-requires : tie.Need-asked-weights-requires Inv-loop μ-loop
-asked-weights-requires c κs =
-    let start = c .before .before .before .before .before .before .before .before .before in
-    let loop = start .before .before in
-    let held = loop .before .before .before .before .before .before .pre .0 in
-    (held, one-truck held (loop .loop .inv .0) (start .truck-start .ensures) .0)
+asked-weights-requires c κs = let start = begun c in (held (start .before .before), one start .0)
 
 joined-weights-requires : tie.Need-joined-weights-requires Inv-loop μ-loop
 joined-weights-requires c κs = search needs
 
 with-truck-requires : tie.Need-with-truck-requires Inv-loop μ-loop
 with-truck-requires c κs =
-    let placed = c .before .before in
-    let start = placed .before .before .before .before .before .before .before .before .before in
+    let start = begun (c .before .before) in
     let loop = start .before .before in
-    let held = loop .before .before .before .before .before .before .pre .0 in
-    let one = one-truck held (loop .loop .inv .0) (start .truck-start .ensures) .0 in
-    let few = few-stacks (held .filled) in
+    let here = one start .0 in
+    let few = few-stacks (held loop .filled) in
     let counted = loop .loop .inv .0 .counted in
-    (held, omega (arith, one .some, one .within), omega (arith, few, counted .within), omega (arith, few, counted .within, counted .few))
+    (held loop, omega (arith, here .some, here .within), omega (arith, few, counted .within), omega (arith, few, counted .within, counted .few))
 
 loop-less : tie.Need-loop-less Inv-loop μ-loop
 loop-less c =
-    let placed = c .before .before .before in
-    let start = placed .before .before .before .before .before .before .before .before .before in
-    start .truck-start .ensures .some
+    begun (c .before .before .before) .truck-start .ensures .some
 
 loop-again : tie.Need-loop-again Inv-loop μ-loop
 loop-again c =
@@ -83,16 +86,14 @@ loop-again c =
     let single = asked .before .before .before in
     let start = single .before in
     let loop = start .before .before in
-    let entry = loop .before .before .before .before .before .before in
-    let a = entry .args in
+    let a = entry loop .args in
     let i = instanceIn (a .limits) (a .t .now) in
     let p = stacksIn (a .limits) (a .t .now) in
-    let one = one-truck (entry .pre .0) (loop .loop .inv .0) (start .truck-start .ensures) in
     let here = truck-told i (block p (start .truck-start .result) (loop .loop .end))
     (record { «single_pair» = single .asked-single-pair .result; placement = asked .asked-placement .result; weights = weights .before .asked-weights .result })
-    (single .asked-single-pair .ensures) (λ e. placed-stacks (entry .pre .0) (one .0) (asked .asked-placement .ensures .0 e)) (weights .before .asked-weights .ensures)
+    (single .asked-single-pair .ensures) (λ e. placed-stacks (held loop) (one start .0) (asked .asked-placement .ensures .0 e)) (weights .before .asked-weights .ensures)
     in (
-      rw (placed .joined-placement .ensures, weights .joined-weights .ensures) (told-more _ _ (loop .loop .inv .0) one here (c .with-truck .ensures)),
+      rw (placed .joined-placement .ensures, weights .joined-weights .ensures) (told-more _ _ (loop .loop .inv .0) (one start) here (c .with-truck .ensures)),
       asked .asked-placement .ensures .1 .0 ∙ loop .loop .inv .1,
       asked .asked-placement .ensures .1 .1 ∙ loop .loop .inv .2,
     )
@@ -106,8 +107,7 @@ same-length-2 c = search needs
 returns : tie.Need-returns Inv-loop μ-loop
 returns c =
     let loop = c .before .loop in
-    let entry = c .before .before .before .before .before .before .before in
-    (told-end (loop .inv .0) (c .loop-test .left) (few-stacks (entry .pre .0 .filled)), (loop .inv .1, loop .inv .2))
+    (told-end (loop .inv .0) (c .loop-test .left) (few-stacks (held (c .before) .filled)), (loop .inv .1, loop .inv .2))
 
 pub ask-trucks-spec : {M : Type 1} → statement M
 ask-trucks-spec =

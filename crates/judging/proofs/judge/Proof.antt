@@ -46,8 +46,8 @@ same-length-4 c = search needs
 returns-2 : tie.Need-returns-2
 returns-2 c =
     let judged = c .before .before .before .before in
-    let inManifest = judged .before .before .before .before .before .before .before .before .before .before in
-    let none = inManifest .before .before .before .before in
+    let manifest = judged .before .before .before .before .before .before .before .before .before .before in
+    let none = manifest .before .before .before .before in
     let once = none .before .before .before .before in
     let entry = once .before .before .before .before .before .before .args in
     judged .judge-loading .ensures
