@@ -14,8 +14,10 @@ use Rattle.meaning.specs.Rules.{plantDocksAllowed, plantDockCount, topWeightWit
 use Rattle.meaning.specs.Rules.{singlePair, disjoint, inLoadingOrder, braced, noAmount, withinLoadLimit, middleAxleHolds, rearAxleHolds}
 use Rattle.rules.specs.declared.ItemRule.{ItemRule}
 use Rattle.rules.specs.declared.ItemRule.the-variants.{Plant, Product, Supplier, Day, Dock, Mixed, Turned}
+use Rattle.rules.specs.declared.OwnRule.{OwnRule}
+use Rattle.rules.specs.declared.OwnRule.the-variants.{Docks, TopHeavy, TooMany, Dense, Outside}
 use Rattle.rules.specs.declared.StackRule.{StackRule}
-use Rattle.rules.specs.declared.StackRule.the-variants.{EachItem, Docks, TopHeavy, TooMany, Dense, Outside}
+use Rattle.rules.specs.declared.StackRule.the-variants.{EachItem, Own}
 use Rattle.rules.specs.declared.PairRule.{PairRule}
 use Rattle.rules.specs.declared.PairRule.the-variants.{SecondPair, Overlap, Order}
 use Rattle.rules.specs.declared.TruckRule.{TruckRule}
@@ -34,14 +36,26 @@ itemTest Dock i s a = docksServed i s a
 itemTest Mixed i s a = stackable i s a
 itemTest Turned i s a = orientationKept i s a
 
+-- when a rule on the stack itself is kept; its test looks at no other stack, so it is asked of an empty plan
+abbrev pub ownTest : OwnRule → Instance → Stack → Bool
+ownTest Docks i s = plantDocksAllowed i [] s
+ownTest TopHeavy i s = topWeightWithin i [] s
+ownTest TooMany i s = stackabilityKept i [] s
+ownTest Dense i s = densityWithin i [] s
+ownTest Outside i s = inside i [] s
+
+-- the amount that its place tells
+abbrev pub ownAmount : OwnRule → Instance → Stack → ℕ
+ownAmount Docks i s = plantDockCount i s
+ownAmount TopHeavy i s = weightAbove i s
+ownAmount TooMany i s = itemCount i s
+ownAmount Dense i s = sm i s
+ownAmount Outside i s = exceededSide i s
+
 -- where a rule on single stacks is broken
 abbrev pub stackRulePlaces : StackRule → Instance → List Stack → List Place
 stackRulePlaces (EachItem rule) i p = itemPlaces (itemTest rule) i p
-stackRulePlaces Docks i p = stackPlaces plantDocksAllowed plantDockCount i p
-stackRulePlaces TopHeavy i p = stackPlaces topWeightWithin weightAbove i p
-stackRulePlaces TooMany i p = stackPlaces stackabilityKept itemCount i p
-stackRulePlaces Dense i p = stackPlaces densityWithin sm i p
-stackRulePlaces Outside i p = stackPlaces inside exceededSide i p
+stackRulePlaces (Own rule) i p = stackPlaces (λ j q. ownTest rule j) (ownAmount rule) i p
 
 -- when a rule on two stacks is kept
 abbrev pub pairTest : PairRule → Instance → Stack → Stack → Bool
@@ -88,13 +102,13 @@ named =
     ∷ 13 names OfStacks (EachItem Day)
     ∷ 14 names OfStacks (EachItem Dock)
     ∷ 15 names OfStacks (EachItem Mixed)
-    ∷ 16 names OfStacks Docks
+    ∷ 16 names OfStacks (Own Docks)
     ∷ 17 names OfPairs SecondPair
     ∷ 18 names OfStacks (EachItem Turned)
-    ∷ 19 names OfStacks TopHeavy
-    ∷ 20 names OfStacks TooMany
-    ∷ 21 names OfStacks Dense
-    ∷ 22 names OfStacks Outside
+    ∷ 19 names OfStacks (Own TopHeavy)
+    ∷ 20 names OfStacks (Own TooMany)
+    ∷ 21 names OfStacks (Own Dense)
+    ∷ 22 names OfStacks (Own Outside)
     ∷ 23 names OfPairs Overlap
     ∷ 24 names OfTrucks Unbraced
     ∷ 25 names OfPairs Order

@@ -16,14 +16,19 @@ pub enum ItemRule {
     Turned, // 18
 }
 
-// The rules on a single stack.
-pub enum StackRule {
-    EachItem(ItemRule),
+// The rules on the stack itself.
+pub enum OwnRule {
     Docks, // 16
     TopHeavy, // 19
     TooMany, // 20
     Dense, // 21
     Outside, // 22
+}
+
+// The rules on a single stack.
+pub enum StackRule {
+    EachItem(ItemRule),
+    Own(OwnRule),
 }
 
 // The rules on two stacks of a used truck.
@@ -93,13 +98,13 @@ fn rule_of(verdict: u32) -> Rule
         13 => Rule::OfStacks(StackRule::EachItem(ItemRule::Day)),
         14 => Rule::OfStacks(StackRule::EachItem(ItemRule::Dock)),
         15 => Rule::OfStacks(StackRule::EachItem(ItemRule::Mixed)),
-        16 => Rule::OfStacks(StackRule::Docks),
+        16 => Rule::OfStacks(StackRule::Own(OwnRule::Docks)),
         17 => Rule::OfPairs(PairRule::SecondPair),
         18 => Rule::OfStacks(StackRule::EachItem(ItemRule::Turned)),
-        19 => Rule::OfStacks(StackRule::TopHeavy),
-        20 => Rule::OfStacks(StackRule::TooMany),
-        21 => Rule::OfStacks(StackRule::Dense),
-        22 => Rule::OfStacks(StackRule::Outside),
+        19 => Rule::OfStacks(StackRule::Own(OwnRule::TopHeavy)),
+        20 => Rule::OfStacks(StackRule::Own(OwnRule::TooMany)),
+        21 => Rule::OfStacks(StackRule::Own(OwnRule::Dense)),
+        22 => Rule::OfStacks(StackRule::Own(OwnRule::Outside)),
         23 => Rule::OfPairs(PairRule::Overlap),
         24 => Rule::OfTrucks(TruckRule::Unbraced),
         25 => Rule::OfPairs(PairRule::Order),

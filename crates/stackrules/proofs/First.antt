@@ -1,6 +1,6 @@
 -- The first rule on stacks that is broken: the rules one after another, and the items of a stack or the stacks of a plan one after another.
 use mathlib.Core.Path.{_≡_, refl, sym, ap, ap₂, _∙_}
-use mathlib.Core.Bool.{Bool, true}
+use mathlib.Core.Bool.{true}
 use mathlib.Core.List.{List, [], _∷_, _++_, append-nil, flatMap}
 use Prim.Native.Nat.{ℕ, suc, _+_, _-_, _≤_, _<_}
 use native.Mathlib.Decide.{decLe}
@@ -10,9 +10,7 @@ use lib.Seq.{drop-length}
 use Rattle.meaning.specs.declared.Place.{Place}
 use Rattle.meaning.specs.Places.{lower, belowOr}
 use Rattle.meaning.specs.Model.{Instance, Stack}
-use Rattle.meaning.specs.Measures.{sm}
-use Rattle.meaning.specs.Rules.{itemPlaces, stackPlaces, plantDocksAllowed, plantDockCount, topWeightWithin, weightAbove, stackabilityKept, itemCount}
-use Rattle.meaning.specs.Rules.{densityWithin, inside, exceededSide}
+use Rattle.meaning.specs.Rules.{itemPlaces, stackPlaces}
 use Rattle.meaning.proofs.Tests.{true≢false, by-less}
 use Rattle.meaning.proofs.Lists.{drop-back}
 use Rattle.meaning.proofs.Permute.{perm-same, flatMap-equal}
@@ -24,7 +22,7 @@ use Rattle.search.proofs.Lowest.{lowest-append, lowest-members, empty-found, no
 use Rattle.rules.specs.declared.Rule.{Rule}
 use Rattle.rules.specs.declared.Rule.the-variants.{OfStacks, OfPairs, OfTrucks}
 use Rattle.rules.specs.declared.StackRule.{StackRule}
-use Rattle.rules.specs.declared.StackRule.the-variants.{EachItem, Docks, TopHeavy, TooMany, Dense, Outside}
+use Rattle.rules.specs.declared.StackRule.the-variants.{EachItem, Own}
 use Rattle.rules.specs.LoadingRules.{stackRulePlaces, rulePlaces, onStack, ruleCount, ruleAt}
 use Rattle.manifest.specs.Manifest.{inManifest}
 use Rattle.manifest.proofs.Order.{manifest-length, manifest-perm}
@@ -37,19 +35,10 @@ unfolding flatMap
 each-alone g [] = refl
 each-alone g (a ∷ l) = rw (append-nil (g a), ← each-alone g l) refl
 
-stacks-alone : (kept : Instance → Stack → Bool) (amount : Instance → Stack → ℕ) (i : Instance) (p : List Stack)
-    → stackPlaces (λ j q. kept j) amount i p ≡ flatMap (λ (s : Stack). stackPlaces (λ j q. kept j) amount i (s ∷ [])) p
-unfolding stackPlaces
-stacks-alone kept amount i p = each-alone _ p
-
 places-alone : (rule : StackRule) (i : Instance) (p : List Stack) → stackRulePlaces rule i p ≡ flatMap (λ (s : Stack). stackRulePlaces rule i (s ∷ [])) p
-unfolding itemPlaces
+unfolding itemPlaces stackPlaces
 places-alone (EachItem rule) i p = each-alone _ p
-places-alone Docks i p = stacks-alone (λ j. plantDocksAllowed j []) plantDockCount i p
-places-alone TopHeavy i p = stacks-alone (λ j. topWeightWithin j []) weightAbove i p
-places-alone TooMany i p = stacks-alone (λ j. stackabilityKept j []) itemCount i p
-places-alone Dense i p = stacks-alone (λ j. densityWithin j []) sm i p
-places-alone Outside i p = stacks-alone (λ j. inside j []) exceededSide i p
+places-alone (Own rule) i p = each-alone _ p
 
 module _ (i : Instance) (rule : Rule) (on : onStack rule ≡ true) where
   alone : (p : List Stack) → rulePlaces rule i p ≡ flatMap (λ (s : Stack). rulePlaces rule i (s ∷ [])) p

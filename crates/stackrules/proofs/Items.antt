@@ -22,7 +22,7 @@ use Rattle.search.specs.declared.Found.the-variants.{At}
 use Rattle.search.proofs.Lowest.{lowest-none, lowest-members}
 use Rattle.rules.specs.declared.Rule.{Rule}
 use Rattle.rules.specs.declared.Rule.the-variants.{OfStacks, OfPairs, OfTrucks}
-use Rattle.rules.specs.declared.StackRule.the-variants.{EachItem, Docks, TopHeavy, TooMany, Dense, Outside}
+use Rattle.rules.specs.declared.StackRule.the-variants.{EachItem, Own}
 use Rattle.rules.specs.LoadingRules.{rulePlaces, onStack}
 use Rattle.stackrules.specs.StackRules.{withItem}
 
@@ -49,11 +49,7 @@ module _ (i : Instance) (s : Stack) {load : List ℕ} (e : load ≡ s .load) (so
   pub load-places : (rule : Rule) → onStack rule ≡ true → lowestIn (flatMap (λ n. withItem i s n rule) load) ≡ lowestIn (rulePlaces rule i (s ∷ []))
   unfolding withItem itemPlaces flatMap
   load-places (OfStacks (EachItem rule)) on = rw e (ap lowestIn (sym (append-nil _)))
-  load-places (OfStacks Docks) on = lowest-members _ _ (repeated load _ some)
-  load-places (OfStacks TopHeavy) on = lowest-members _ _ (repeated load _ some)
-  load-places (OfStacks TooMany) on = lowest-members _ _ (repeated load _ some)
-  load-places (OfStacks Dense) on = lowest-members _ _ (repeated load _ some)
-  load-places (OfStacks Outside) on = lowest-members _ _ (repeated load _ some)
+  load-places (OfStacks (Own rule)) on = lowest-members _ _ (repeated load _ some)
   load-places (OfPairs rule) on = absurd (true≢false (sym on))
   load-places (OfTrucks rule) on = absurd (true≢false (sym on))
 

@@ -2,7 +2,7 @@
 use mathlib.Core.Path.{_≡_, refl, sym, _∙_}
 use mathlib.Core.Logic.{_↔_}
 use mathlib.Core.Bool.{Bool, true, false, not, _&&_}
-use mathlib.Core.List.{List, [], _∷_}
+use mathlib.Core.List.{List, []}
 use Prim.Native.Nat.{ℕ}
 use borrow.Author.Tests.{not-false}
 use Rattle.meaning.specs.declared.Place.{Place}
@@ -17,13 +17,12 @@ use Rattle.rules.specs.declared.Rule.{Rule}
 use Rattle.rules.specs.declared.Rule.the-variants.{OfStacks, OfPairs, OfTrucks}
 use Rattle.rules.specs.declared.ItemRule.{ItemRule}
 use Rattle.rules.specs.declared.ItemRule.the-variants.{Plant, Product, Supplier, Day, Dock, Mixed, Turned}
-use Rattle.rules.specs.declared.StackRule.{StackRule}
-use Rattle.rules.specs.declared.StackRule.the-variants.{EachItem, Docks, TopHeavy, TooMany, Dense, Outside}
-use Rattle.rules.specs.LoadingRules.{itemTest, stackRulePlaces}
+use Rattle.rules.specs.declared.StackRule.the-variants.{EachItem, Own}
+use Rattle.rules.specs.LoadingRules.{itemTest}
 use Rattle.stackrules.specs.StackRules.{everyItemTest, OwnRulesKept, withItem}
 
 -- ---- joined tests
-both : {a b : Bool} {P Q : Type 0} → (a ≡ true) ↔ P → (b ≡ true) ↔ Q → ((a && b) ≡ true) ↔ (P × Q)
+pub both : {a b : Bool} {P Q : Type 0} → (a ≡ true) ↔ P → (b ≡ true) ↔ Q → ((a && b) ≡ true) ↔ (P × Q)
 both {a} {b} p q = iff-trans (and-reads a b) (iff-both p q)
 
 -- a search that finds nothing
@@ -63,29 +62,10 @@ module _ (i : Instance) (s : Stack) (a : Item) where
 
 -- ---- a stack by itself, and with an item
 module _ (i : Instance) (s : Stack) where
-  abbrev None : StackRule → Type 0
-  None rule = stackRulePlaces rule i (s ∷ []) ≡ []
-
-  pub own-kept : {docks top count density ground : Bool} → (docks ≡ true) ↔ None Docks → (top ≡ true) ↔ None TopHeavy → (count ≡ true) ↔ None TooMany
-      → (density ≡ true) ↔ None Dense → (ground ≡ true) ↔ None Outside → (((((docks && top) && count) && density) && ground) ≡ true) ↔ OwnRulesKept i s
-  own-kept d t c h g =
-      iff-trans (both (both (both (both d t) c) h) g) (
-        (λ k.
-            let four = k .0 in
-            let three = four .0 in
-            let two = three .0 in
-            record { docks = two .0; topHeavy = two .1; tooMany = three .1; dense = four .1; outside = k .1 }),
-        (λ k. ((((k .docks, k .topHeavy), k .tooMany), k .dense), k .outside)),
-      )
-
   none-broken : (n : ℕ) → OwnRulesKept i s → everyItemTest i s (item i n) ≡ true → (rule : Rule) → withItem i s n rule ≡ []
   unfolding withItem
   none-broken n own each (OfStacks (EachItem rule)) = unless-none _ _ .1 (every-item i s (item i n) each rule)
-  none-broken n own each (OfStacks Docks) = own .docks
-  none-broken n own each (OfStacks TopHeavy) = own .topHeavy
-  none-broken n own each (OfStacks TooMany) = own .tooMany
-  none-broken n own each (OfStacks Dense) = own .dense
-  none-broken n own each (OfStacks Outside) = own .outside
+  none-broken n own each (OfStacks (Own rule)) = own rule
   none-broken n own each (OfPairs rule) = refl
   none-broken n own each (OfTrucks rule) = refl
 

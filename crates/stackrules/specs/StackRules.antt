@@ -14,7 +14,8 @@ use Rattle.search.specs.declared.Found.the-variants.{At}
 use Rattle.search.specs.Lowest.{lowestIn, lowerPlace}
 use Rattle.rules.specs.declared.Rule.{Rule}
 use Rattle.rules.specs.declared.Rule.the-variants.{OfStacks, OfPairs, OfTrucks}
-use Rattle.rules.specs.declared.StackRule.the-variants.{EachItem, Docks, TopHeavy, TooMany, Dense, Outside}
+use Rattle.rules.specs.declared.OwnRule.{OwnRule}
+use Rattle.rules.specs.declared.StackRule.the-variants.{EachItem, Own}
 use Rattle.rules.specs.LoadingRules.{itemTest, stackRulePlaces, rulePlaces, onStack, ruleCount, ruleAt}
 use Rattle.stackrules.specs.declared.Breach.{Breach}
 
@@ -23,22 +24,18 @@ abbrev pub everyItemTest : Instance → Stack → Item → Bool
 everyItemTest i s a =
     plantMatches i s a && productCarried i s a && supplierVisited i s a && arrivesInWindow i s a && docksServed i s a && stackable i s a && orientationKept i s a
 
--- a stack that keeps every rule on the stack itself
-pub record OwnRulesKept (i : Instance) (s : Stack) : Type 0 where
-  pub docks : stackRulePlaces Docks i (s ∷ []) ≡ []
-  pub topHeavy : stackRulePlaces TopHeavy i (s ∷ []) ≡ []
-  pub tooMany : stackRulePlaces TooMany i (s ∷ []) ≡ []
-  pub dense : stackRulePlaces Dense i (s ∷ []) ≡ []
-  pub outside : stackRulePlaces Outside i (s ∷ []) ≡ []
+-- where a stack breaks a rule on itself
+abbrev pub ownPlaces : OwnRule → Instance → Stack → List Place
+ownPlaces rule i s = stackRulePlaces (Own rule) i (s ∷ [])
+
+-- a stack that keeps every rule on itself
+abbrev pub OwnRulesKept : Instance → Stack → Type 0
+OwnRulesKept i s = (rule : OwnRule) → ownPlaces rule i s ≡ []
 
 -- where a stack breaks a rule on itself, or with its item n a rule on items
 unfoldable pub withItem : Instance → Stack → ℕ → Rule → List Place
 withItem i s n (OfStacks (EachItem rule)) = onlyIf (not (itemTest rule i s (item i n))) (place (number s) n 0)
-withItem i s n (OfStacks Docks) = stackRulePlaces Docks i (s ∷ [])
-withItem i s n (OfStacks TopHeavy) = stackRulePlaces TopHeavy i (s ∷ [])
-withItem i s n (OfStacks TooMany) = stackRulePlaces TooMany i (s ∷ [])
-withItem i s n (OfStacks Dense) = stackRulePlaces Dense i (s ∷ [])
-withItem i s n (OfStacks Outside) = stackRulePlaces Outside i (s ∷ [])
+withItem i s n (OfStacks (Own rule)) = ownPlaces rule i s
 withItem i s n (OfPairs rule) = []
 withItem i s n (OfTrucks rule) = []
 

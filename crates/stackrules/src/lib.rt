@@ -15,9 +15,9 @@ ghost use Rattle.meaning.specs.Rules.{stackable, orientationKept};
 ghost use Rattle.table.specs.Filled.{Filled, stackAt, ItemNumber};
 ghost use Rattle.search.specs.Lowest.{lowestIn};
 ghost use Rattle.rules.specs.declared.Rule.the-variants.{OfStacks};
-ghost use Rattle.rules.specs.LoadingRules.{itemTest, stackRulePlaces, ruleCount, ruleAt};
+ghost use Rattle.rules.specs.LoadingRules.{itemTest, ruleCount, ruleAt};
 ghost use Rattle.manifest.specs.Manifest.{manifestAt, HoldsRows};
-ghost use Rattle.stackrules.specs.StackRules.{everyItemTest, OwnRulesKept, withItem, noBreach, soonerOf, FirstOf, FirstOnStacks};
+ghost use Rattle.stackrules.specs.StackRules.{everyItemTest, ownPlaces, OwnRulesKept, withItem, noBreach, soonerOf, FirstOf, FirstOnStacks};
 ghost use Rattle.stackrules.specs.StackRules.{Countable, Counted, Tally};
 use manifest::footprint_at;
 use manifest::row;
@@ -26,6 +26,7 @@ use manifest::stack_at;
 use meaning::Limits;
 use meaning::Place;
 use rules::ItemRule;
+use rules::OwnRule;
 use rules::RULES;
 use rules::Rule;
 use rules::StackRule;
@@ -245,8 +246,7 @@ fn item_keeps_rules(t: &[u32], limits: Limits, s: usize, n: u32) -> bool
 // 16 docks, S2 and S3: one plant dock; where the truck's flag is set also two, if they are consecutive.
 fn docks_place(t: &[u32], limits: Limits, rows: &[u32], k: usize) -> Found
     requires { ⌜ HoldsRows limits (now t) (now rows) × (k < length (stacksIn limits (now t))) ⌝ }
-    ensures { λ r. ⌜ r ≡ lowestIn (stackRulePlaces StackRule.Docks (instanceIn limits (now (t .entry)))
-        (manifestAt (stacksIn limits (now (t .entry))) k ∷ [])) ⌝ }
+    ensures { λ r. ⌜ r ≡ lowestIn (ownPlaces OwnRule.Docks (instanceIn limits (now (t .entry))) (manifestAt (stacksIn limits (now (t .entry))) k)) ⌝ }
 {
     let count = row_word(rows, k, row::PLANT_DOCKS);
     let two_docks = truck_field(t, limits, row_word(rows, k, row::TRUCK), TF) == 1;
@@ -259,8 +259,7 @@ fn docks_place(t: &[u32], limits: Limits, rows: &[u32], k: usize) -> Found
 // 19 top heavy, S5: the weight above the bottom item is within the truck's limit.
 fn top_heavy_place(t: &[u32], limits: Limits, rows: &[u32], k: usize) -> Found
     requires { ⌜ HoldsRows limits (now t) (now rows) × (k < length (stacksIn limits (now t))) ⌝ }
-    ensures { λ r. ⌜ r ≡ lowestIn (stackRulePlaces StackRule.TopHeavy (instanceIn limits (now (t .entry)))
-        (manifestAt (stacksIn limits (now (t .entry))) k ∷ [])) ⌝ }
+    ensures { λ r. ⌜ r ≡ lowestIn (ownPlaces OwnRule.TopHeavy (instanceIn limits (now (t .entry))) (manifestAt (stacksIn limits (now (t .entry))) k)) ⌝ }
 {
     let items = load(t, limits, stack_at(rows, k));
     let above = load_sum(t, limits, items, 1, IM);
@@ -271,8 +270,7 @@ fn top_heavy_place(t: &[u32], limits: Limits, rows: &[u32], k: usize) -> Found
 // 20 too many, S6: no more items than the maximal stackability.
 fn too_many_place(t: &[u32], limits: Limits, rows: &[u32], k: usize) -> Found
     requires { ⌜ HoldsRows limits (now t) (now rows) × (k < length (stacksIn limits (now t))) ⌝ }
-    ensures { λ r. ⌜ r ≡ lowestIn (stackRulePlaces StackRule.TooMany (instanceIn limits (now (t .entry)))
-        (manifestAt (stacksIn limits (now (t .entry))) k ∷ [])) ⌝ }
+    ensures { λ r. ⌜ r ≡ lowestIn (ownPlaces OwnRule.TooMany (instanceIn limits (now (t .entry))) (manifestAt (stacksIn limits (now (t .entry))) k)) ⌝ }
 {
     let items = load(t, limits, stack_at(rows, k));
     let count = items.len() as u32;
@@ -291,8 +289,7 @@ fn density_kept(weight: u32, limit: u32, length: u32, width: u32) -> bool
 // 21 dense, S7: the weight on the ground is within the truck's density limit.
 fn dense_place(t: &[u32], limits: Limits, rows: &[u32], k: usize) -> Found
     requires { ⌜ HoldsRows limits (now t) (now rows) × (k < length (stacksIn limits (now t))) ⌝ }
-    ensures { λ r. ⌜ r ≡ lowestIn (stackRulePlaces StackRule.Dense (instanceIn limits (now (t .entry)))
-        (manifestAt (stacksIn limits (now (t .entry))) k ∷ [])) ⌝ }
+    ensures { λ r. ⌜ r ≡ lowestIn (ownPlaces OwnRule.Dense (instanceIn limits (now (t .entry))) (manifestAt (stacksIn limits (now (t .entry))) k)) ⌝ }
 {
     let s = stack_at(rows, k);
     let weight = row_word(rows, k, row::WEIGHT);
@@ -322,8 +319,7 @@ fn exceeded_side(length: bool, width: bool) -> u32
 // 22 outside, P1: the stack is within the trailer.
 fn outside_place(t: &[u32], limits: Limits, rows: &[u32], k: usize) -> Found
     requires { ⌜ HoldsRows limits (now t) (now rows) × (k < length (stacksIn limits (now t))) ⌝ }
-    ensures { λ r. ⌜ r ≡ lowestIn (stackRulePlaces StackRule.Outside (instanceIn limits (now (t .entry)))
-        (manifestAt (stacksIn limits (now (t .entry))) k ∷ [])) ⌝ }
+    ensures { λ r. ⌜ r ≡ lowestIn (ownPlaces OwnRule.Outside (instanceIn limits (now (t .entry))) (manifestAt (stacksIn limits (now (t .entry))) k)) ⌝ }
 {
     let number = row_word(rows, k, row::NUMBER);
     let truck = row_word(rows, k, row::TRUCK);
@@ -335,6 +331,20 @@ fn outside_place(t: &[u32], limits: Limits, rows: &[u32], k: usize) -> Found
     let inside = (within_length & within_width) & within_height;
     let side = exceeded_side(within_length, within_width);
     place_if(!inside, number, side, 0)
+}
+
+// Where the stack at place k breaks a rule on itself.
+fn own_place(rule: OwnRule, t: &[u32], limits: Limits, rows: &[u32], k: usize) -> Found
+    requires { ⌜ HoldsRows limits (now t) (now rows) × (k < length (stacksIn limits (now t))) ⌝ }
+    ensures { λ r. ⌜ r ≡ lowestIn (ownPlaces rule (instanceIn limits (now (t .entry))) (manifestAt (stacksIn limits (now (t .entry))) k)) ⌝ }
+{
+    match rule {
+        OwnRule::Docks => docks_place(t, limits, rows, k),
+        OwnRule::TopHeavy => top_heavy_place(t, limits, rows, k),
+        OwnRule::TooMany => too_many_place(t, limits, rows, k),
+        OwnRule::Dense => dense_place(t, limits, rows, k),
+        OwnRule::Outside => outside_place(t, limits, rows, k),
+    }
 }
 
 // Whether the stack at place k keeps every rule on the stack itself.
@@ -400,11 +410,7 @@ fn stack_place(rule: StackRule, t: &[u32], limits: Limits, rows: &[u32], k: usiz
             let kept = item_kept(each, t, limits, stack_at(rows, k), n);
             place_if(!kept, row_word(rows, k, row::NUMBER), n, 0)
         }
-        StackRule::Docks => docks_place(t, limits, rows, k),
-        StackRule::TopHeavy => top_heavy_place(t, limits, rows, k),
-        StackRule::TooMany => too_many_place(t, limits, rows, k),
-        StackRule::Dense => dense_place(t, limits, rows, k),
-        StackRule::Outside => outside_place(t, limits, rows, k),
+        StackRule::Own(own) => own_place(own, t, limits, rows, k),
     }
 }
 

@@ -1,13 +1,25 @@
 -- `stackrules::own_rules_kept`: five searches, and each finds nothing exactly where its rule is kept.
-use mathlib.Core.List.{[], _∷_}
+use mathlib.Core.Path.{_≡_}
+use mathlib.Core.List.{[]}
 use borrow.Author.Needs.{needs}
 use Rattle.meaning.specs.Table.{instanceIn, stacksIn}
-use Rattle.rules.specs.declared.StackRule.the-variants.{Docks, TopHeavy, TooMany, Dense, Outside}
-use Rattle.rules.specs.LoadingRules.{stackRulePlaces}
+use Rattle.meaning.proofs.Tests.{iff-trans}
+use Rattle.rules.specs.declared.OwnRule.{OwnRule}
+use Rattle.rules.specs.declared.OwnRule.the-variants.{Docks, TopHeavy, TooMany, Dense, Outside}
 use Rattle.manifest.specs.Manifest.{manifestAt}
-use Rattle.stackrules.proofs.Kept.{nothing-told, own-kept}
+use Rattle.stackrules.specs.StackRules.{ownPlaces}
+use Rattle.stackrules.proofs.Kept.{both, nothing-told}
 use Rattle.stackrules.proofs.own_rules_kept.Statement.{statement}
 use Rattle.stackrules.proofs.own_rules_kept.Tie as tie
+
+-- the rules one by one are all rules
+module _ (P : OwnRule → Type 0) (docks : P Docks) (top : P TopHeavy) (many : P TooMany) (dense : P Dense) (outside : P Outside) where
+  every-own : (rule : OwnRule) → P rule
+  every-own Docks = docks
+  every-own TopHeavy = top
+  every-own TooMany = many
+  every-own Dense = dense
+  every-own Outside = outside
 
 returns : tie.Need-returns
 returns c =
@@ -19,11 +31,15 @@ returns c =
     let a = docks .before .before .before .args in
     let i = instanceIn (a .limits) (a .t .now) in
     let s = manifestAt (stacksIn (a .limits) (a .t .now)) (a .k) in
-    own-kept i s (nothing-told (stackRulePlaces Docks i (s ∷ [])) (docks .docks-place .ensures) (top .before .is-nothing .ensures))
-    (nothing-told (stackRulePlaces TopHeavy i (s ∷ [])) (top .top-heavy-place .ensures) (many .before .is-nothing2 .ensures))
-    (nothing-told (stackRulePlaces TooMany i (s ∷ [])) (many .too-many-place .ensures) (dense .before .is-nothing3 .ensures))
-    (nothing-told (stackRulePlaces Dense i (s ∷ [])) (dense .dense-place .ensures) (outside .before .is-nothing4 .ensures))
-    (nothing-told (stackRulePlaces Outside i (s ∷ [])) (outside .outside-place .ensures) (c .is-nothing5 .ensures))
+    let d = nothing-told (ownPlaces Docks i s) (docks .docks-place .ensures) (top .before .is-nothing .ensures) in
+    let t = nothing-told (ownPlaces TopHeavy i s) (top .top-heavy-place .ensures) (many .before .is-nothing2 .ensures) in
+    let m = nothing-told (ownPlaces TooMany i s) (many .too-many-place .ensures) (dense .before .is-nothing3 .ensures) in
+    let h = nothing-told (ownPlaces Dense i s) (dense .dense-place .ensures) (outside .before .is-nothing4 .ensures) in
+    let o = nothing-told (ownPlaces Outside i s) (outside .outside-place .ensures) (c .is-nothing5 .ensures) in
+    iff-trans (both (both (both (both d t) m) h) o) (
+      (λ ((((d, t), m), h), o). every-own (λ rule. ownPlaces rule i s ≡ []) d t m h o),
+      (λ each. ((((each Docks, each TopHeavy), each TooMany), each Dense), each Outside)),
+    )
 
 pub own-rules-kept-spec : {M : Type 1} → statement M
 own-rules-kept-spec =

@@ -1,4 +1,4 @@
--- `stackrules::stack_place`: each arm has the places of its rule.
+-- `stackrules::stack_place`: each arm has the places of its kind of rule.
 use borrow.Author.Needs.{needs}
 use Rattle.stackrules.specs.StackRules.{withItem}
 use Rattle.stackrules.proofs.Stacks.{stack-there, item-is}
@@ -26,17 +26,5 @@ stack-place-spec =
     (λ c κs. search needs)
     (λ c. search needs)
     (λ c κs. search needs)
-    (λ c. search needs)
-    (λ c κs. search needs)
-    (λ c. search needs)
-    (λ c κs. search needs)
-    (λ c. search needs)
-    (λ c κs. search needs)
-    (λ c. search needs)
-    (λ c κs. search needs)
     returns
-    (λ c. rw (c .before .enum-told .given .1) (c .docks-place .ensures))
-    (λ c. rw (c .before .enum-told2 .given .1) (c .top-heavy-place .ensures))
-    (λ c. rw (c .before .enum-told3 .given .1) (c .too-many-place .ensures))
-    (λ c. rw (c .before .enum-told4 .given .1) (c .dense-place .ensures))
-    (λ c. rw (c .before .enum-told5 .given .1) (c .outside-place .ensures)))
+    (λ c. rw (c .before .before .rule2 .given .1) (c .own-place .ensures)))
