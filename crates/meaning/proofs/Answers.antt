@@ -3,17 +3,19 @@ use mathlib.Core.Path.{_≡_, refl}
 use mathlib.Core.List.{[], _∷_, _++_, map}
 use Prim.Native.Nat.{_+_, _*_}
 use lib.IntN.{pos}
-use lib.ListN.{replicate}
+use lib.ListN.{take, replicate}
 use Rattle.meaning.specs.Limits.{small}
 use Rattle.meaning.specs.Text.{bytes, commaParts}
 use Rattle.meaning.specs.Measures.{H}
 use Rattle.meaning.specs.Table.{largestWord, truckPlace, dockCount, stackPlace, loadFirst, loadCount}
 use Rattle.meaning.specs.Check.{readFiles, answer, tableAfter}
+use Rattle.meaning.specs.Write.{writeFiles, written, instanceAfter, planAfter}
+use Rattle.meaning.specs.Claims.{instanceMost, planMost}
 use Rattle.meaning.specs.BadLine.{inInstance, inPlan, handedBack}
 use Rattle.meaning.specs.Print.{commaJoined}
 use Rattle.meaning.specs.Example.{lines, fileOf, AsExpected, exampleInstance, examplePlan, tenEdits, readH}
 use Rattle.meaning.specs.ExampleRules.{unevenInstance, unevenPlan, ruleCases, rulePairs, clashCases}
-use Rattle.meaning.specs.Examples.{readingCases, examplePart, exampleBytes, gapPart, Run, wordsThere, unevenWords}
+use Rattle.meaning.specs.Examples.{readingCases, examplePart, exampleBytes, gapPart, Run, wordsThere, unevenWords, close, unevenTable, Change, answeredChange, changes}
 
 -- ---- the ten edits, and H
 pub ten-edits : AsExpected exampleInstance examplePlan tenEdits
@@ -144,3 +146,40 @@ short-table-left = refl
 -- "32-bit unsigned words": the largest is one below 2 to the 32nd
 pub largest-word : largestWord + 1 ≡ 65536 * 65536
 largest-word = refl
+
+-- ---- files written back
+pub table-changes : map answeredChange changes ≡ map (λ (c : Change). c .answer) changes
+unfolding tableAfter writeFiles written
+table-changes = refl
+
+-- one byte too few in either buffer, and in both; then a short table
+pub short-buffers :
+    map written (
+    writeFiles close unevenTable 1999 2000 ∷ writeFiles close unevenTable 2000 1999 ∷ writeFiles small [] 65534 0 ∷ writeFiles small [] 65535 65535 ∷ []
+    )
+    ≡ record { number = 29; «instance_length» = 0; «plan_length» = 0 }
+    ∷ record { number = 29; «instance_length» = 0; «plan_length» = 0 }
+    ∷ record { number = 29; «instance_length» = 0; «plan_length» = 0 }
+    ∷ record { number = 30; «instance_length» = 0; «plan_length» = 0 }
+    ∷ []
+unfolding writeFiles written tableAfter
+short-buffers = refl
+
+-- the load of document 01, checked and written out into buffers of 65,536 bytes: the lengths, and the files with what stood behind them
+pub example-written :
+    written (writeFiles small (tableAfter small (replicate 8976 5) (fileOf exampleInstance) (fileOf examplePlan)) 65536 65535)
+    ≡ record { number = 0; «instance_length» = 291; «plan_length» = 36 }
+unfolding writeFiles written tableAfter
+example-written = refl
+
+pub example-buffers :
+    (let table = tableAfter small (replicate 8976 5) (fileOf exampleInstance) (fileOf examplePlan) in
+    let w = writeFiles small table 65535 65535 in
+    take 294 (instanceAfter w (replicate 300 7)) ∷ planAfter w (replicate 38 7) ∷ [])
+    ≡ (fileOf exampleInstance ++ 7 ∷ 7 ∷ 7 ∷ []) ∷ (fileOf examplePlan ++ 7 ∷ 7 ∷ []) ∷ []
+unfolding writeFiles instanceAfter planAfter tableAfter
+example-buffers = refl
+
+-- how long the files can be
+pub most-bytes : instanceMost small ∷ planMost small ∷ [] ≡ 52373 ∷ 22546 ∷ []
+most-bytes = refl

@@ -22,7 +22,7 @@ pub record From (ws : List ℕ) (at : ℕ) (rest : List ℕ) : Type 0 where
   pub whole : ws ≡ front ++ rest
   pub width : length front ≡ at
 
-start : (ws : List ℕ) → From ws 0 ws
+pub start : (ws : List ℕ) → From ws 0 ws
 start ws = record { front = []; whole = refl; width = refl }
 
 module _ {ws : List ℕ} {at : ℕ} where
@@ -54,7 +54,7 @@ pub length-padded : (w : ℕ) (l : List ℕ) → length l ≤ w → length (padd
 length-padded w l h = simp (length-append, length-replicate) (omega arith)
 
 -- a part of entries behind their count
-length-counted : (w : ℕ) (l : List ℕ) → length l ≤ w → length (countedWords w l) ≡ suc w
+pub length-counted : (w : ℕ) (l : List ℕ) → length l ≤ w → length (countedWords w l) ≡ suc w
 length-counted w l h = ap suc (length-padded w l h)
 
 module _ {ws : List ℕ} {at : ℕ} (w : ℕ) (l rest : List ℕ) where
@@ -72,24 +72,24 @@ take-counted {ws} {at} w l rest h = take-padded w l rest (getD ws at 0) (word-at
 -- ---- runs of w words each
 module _ {A : Type 0} (w : ℕ) (f : A → List ℕ) where
   -- cutting gives the runs back
-  chunks-flatMap : (l : List A) (rest : List ℕ) → Every (λ a. length (f a) ≡ w) l → chunks w (length l) (flatMap f l ++ rest) ≡ map f l
+  pub chunks-flatMap : (l : List A) (rest : List ℕ) → Every (λ a. length (f a) ≡ w) l → chunks w (length l) (flatMap f l ++ rest) ≡ map f l
   unfolding chunks flatMap
   chunks-flatMap [] rest h = refl
   chunks-flatMap (a ∷ l) rest h =
       rw (append-assoc (f a) (flatMap f l) rest, take-at (f a) (flatMap f l ++ rest) w (h .0), drop-at (f a) (flatMap f l ++ rest) w (h .0))
       (ap {B = List (List ℕ)} (λ r. f a ∷ r) (chunks-flatMap l rest (h .1)))
 
-  length-flatMap : (l : List A) → Every (λ a. length (f a) ≡ w) l → length (flatMap f l) ≡ w * length l
+  pub length-flatMap : (l : List A) → Every (λ a. length (f a) ≡ w) l → length (flatMap f l) ≡ w * length l
   unfolding flatMap
   length-flatMap [] h = omega arith
   length-flatMap (a ∷ l) h = rw (length-append (f a) (flatMap f l), h .0, length-flatMap l (h .1)) (omega arith)
 
   -- a part with room for `most` runs
   module _ (most : ℕ) (l : List A) (each : Every (λ a. length (f a) ≡ w) l) where
-    length-runs : length l ≤ most → length (padded (w * most) (flatMap f l)) ≡ w * most
+    pub length-runs : length l ≤ most → length (padded (w * most) (flatMap f l)) ≡ w * most
     length-runs h = length-padded (w * most) (flatMap f l) (omega (arith, length-flatMap l each, mul-le-mul-left w h))
 
-    chunks-runs : {ws : List ℕ} {at : ℕ} (rest : List ℕ) → From ws at (padded (w * most) (flatMap f l) ++ rest) → chunks w (length l) (drop at ws) ≡ map f l
+    pub chunks-runs : {ws : List ℕ} {at : ℕ} (rest : List ℕ) → From ws at (padded (w * most) (flatMap f l) ++ rest) → chunks w (length l) (drop at ws) ≡ map f l
     chunks-runs rest h = ap (chunks w (length l)) (drop-padded (w * most) (flatMap f l) rest h) ∙ chunks-flatMap l _ each
 
 -- ---- a truck
@@ -107,19 +107,19 @@ cut-docks (suc n) (d ∷ ds) rest h k =
 
 -- its words from each part behind the fields on
 module _ (t : Truck) where
-  abbrev plantDockWords : List ℕ
+  abbrev pub plantDockWords : List ℕ
   plantDockWords = countedWords 8 (t .plantDocks) ++ replicate spareWords 0
 
   abbrev pub dockWords : List ℕ
   dockWords = padded 64 (flatMap (padded 8) (t .docks)) ++ plantDockWords
 
-  abbrev dockCountWords : List ℕ
+  abbrev pub dockCountWords : List ℕ
   dockCountWords = padded 8 (map length (t .docks)) ++ dockWords
 
-  abbrev supplierWords : List ℕ
+  abbrev pub supplierWords : List ℕ
   supplierWords = countedWords 8 (t .suppliers) ++ dockCountWords
 
-  abbrev productWords : List ℕ
+  abbrev pub productWords : List ℕ
   productWords = countedWords 32 (t .products) ++ supplierWords
 
 -- where each begins, and so what the words of a truck hold
@@ -127,33 +127,33 @@ module _ (t : Truck) (h : TruckFits t) where
   few-docks : length (t .docks) ≤ 8
   few-docks = omega (arith, h .dockLines, h .suppliers)
 
-  from20 : From (truckWords t) 20 (productWords t)
+  pub from20 : From (truckWords t) 20 (productWords t)
   unfolding truckWords
   from20 = past 20 (t .fields) (productWords t) (start (truckWords t)) (h .fields)
 
-  from53 : From (truckWords t) 53 (supplierWords t)
+  pub from53 : From (truckWords t) 53 (supplierWords t)
   from53 = past 33 (countedWords 32 (t .products)) (supplierWords t) from20 (length-counted 32 (t .products) (h .products))
 
   pub from62 : From (truckWords t) 62 (padded 8 (map length (t .docks)) ++ dockWords t)
   from62 = past 9 (countedWords 8 (t .suppliers)) (dockCountWords t) from53 (length-counted 8 (t .suppliers) (h .suppliers))
 
-  from70 : From (truckWords t) 70 (dockWords t)
+  pub from70 : From (truckWords t) 70 (dockWords t)
   from70 =
       past 8 (padded 8 (map length (t .docks))) (dockWords t) from62
       (length-padded 8 (map length (t .docks)) (omega (arith, length-map (t .docks) length, few-docks)))
 
-  from134 : From (truckWords t) 134 (plantDockWords t)
+  pub from134 : From (truckWords t) 134 (plantDockWords t)
   from134 =
       let eights = every-map _ _ (length-padded 8) (t .docks) (h .docks) in
       past 64 (padded 64 (flatMap (padded 8) (t .docks))) (plantDockWords t) from70 (length-runs 8 (padded 8) 8 (t .docks) eights few-docks)
 
-  from143 : From (truckWords t) 143 (replicate spareWords 0)
+  pub from143 : From (truckWords t) 143 (replicate spareWords 0)
   from143 = past 9 (countedWords 8 (t .plantDocks)) (replicate spareWords 0) from134 (length-counted 8 (t .plantDocks) (h .plantDocks))
 
-  truck-size : length (truckWords t) ≡ 160
+  pub truck-size : length (truckWords t) ≡ 160
   truck-size = length-whole (past spareWords (replicate spareWords 0) [] (last (replicate spareWords 0) from143) refl)
 
-  truck-decodes : truckIn (truckWords t) ≡ t
+  pub truck-decodes : truckIn (truckWords t) ≡ t
   unfolding truckIn truckWords
   truck-decodes =
       let ws = truckWords t in
@@ -221,50 +221,50 @@ length-stackWords before (s ∷ p) h =
 -- ---- the table: the words of a model, and any words beyond them
 -- its words from each part on
 module _ (m : Limits) (i : Instance) (p : List Stack) (beyond : List ℕ) where
-  abbrev fromLoads : List ℕ
+  abbrev pub fromLoads : List ℕ
   fromLoads = padded (m .loads) (loadEntries p) ++ beyond
 
   -- behind the words of the stacks: zeros, then the loads
   abbrev pub behindStacks : List ℕ
   behindStacks = replicate (8 * m .stacks - length (stackWords 0 p)) 0 ++ fromLoads
 
-  abbrev fromStacks : List ℕ
+  abbrev pub fromStacks : List ℕ
   fromStacks = padded (8 * m .stacks) (stackWords 0 p) ++ fromLoads
 
-  abbrev fromTrucks : List ℕ
+  abbrev pub fromTrucks : List ℕ
   fromTrucks = padded (160 * m .trucks) (flatMap truckWords (i .trucks)) ++ fromStacks
 
-  abbrev fromItems : List ℕ
+  abbrev pub fromItems : List ℕ
   fromItems = padded (16 * m .items) (flatMap (λ (a : Item). a) (i .items)) ++ fromTrucks
 
-  abbrev longTable : List ℕ
+  abbrev pub longTable : List ℕ
   longTable = words m i p ++ beyond
 
 -- where each begins, and what it holds
 module _ (m : Limits) (i : Instance) (p : List Stack) (h : Fits m i p) (beyond : List ℕ) where
-  items-begin : From (longTable m i p beyond) itemsAt (fromItems m i p beyond)
+  pub items-begin : From (longTable m i p beyond) itemsAt (fromItems m i p beyond)
   unfolding words headWords
   items-begin = record { front = padded itemsAt (headWords i p); whole = simp append-assoc; width = refl }
 
   sizes : Every (λ (t : Truck). length (truckWords t) ≡ 160) (i .trucks)
   sizes = every-map TruckFits _ truck-size (i .trucks) (h .trucks)
 
-  trucks-begin : From (longTable m i p beyond) (trucksAt m) (fromTrucks m i p beyond)
+  pub trucks-begin : From (longTable m i p beyond) (trucksAt m) (fromTrucks m i p beyond)
   trucks-begin =
       past (16 * m .items) (padded (16 * m .items) (flatMap (λ (a : Item). a) (i .items))) (fromTrucks m i p beyond) items-begin
       (length-runs 16 (λ (a : Item). a) (m .items) (i .items) (h .items) (h .itemCount))
 
-  stacks-begin : From (longTable m i p beyond) (stacksAt m) (fromStacks m i p beyond)
+  pub stacks-begin : From (longTable m i p beyond) (stacksAt m) (fromStacks m i p beyond)
   stacks-begin =
       past (160 * m .trucks) (padded (160 * m .trucks) (flatMap truckWords (i .trucks))) (fromStacks m i p beyond) trucks-begin
       (length-runs 160 truckWords (m .trucks) (i .trucks) sizes (h .truckCount))
 
-  loads-begin : From (longTable m i p beyond) (loadsAt m) (fromLoads m i p beyond)
+  pub loads-begin : From (longTable m i p beyond) (loadsAt m) (fromLoads m i p beyond)
   loads-begin =
       past (8 * m .stacks) (padded (8 * m .stacks) (stackWords 0 p)) (fromLoads m i p beyond) stacks-begin
       (length-padded (8 * m .stacks) (stackWords 0 p) (omega (arith, length-stackWords 0 p (h .stacks), h .stackCount)))
 
-  beyond-begins : From (longTable m i p beyond) (named m) beyond
+  pub beyond-begins : From (longTable m i p beyond) (named m) beyond
   beyond-begins = past (m .loads) (padded (m .loads) (loadEntries p)) beyond loads-begin (length-padded (m .loads) (loadEntries p) (h .loads))
 
   -- the rows of the trucks, and the words from the stacks on

@@ -18,7 +18,7 @@ use Rattle.meaning.proofs.Tests.{not-reads, and-reads, lt-reads, eq-rea
 use Rattle.meaning.proofs.Lists.{no-cons}
 
 -- a choice that gave something passed its test
-chosen : {A : Type 0} (b : Bool) (o : Option A) (a : A) → cond b o none ≡ some a → (b ≡ true) × (o ≡ some a)
+pub chosen : {A : Type 0} (b : Bool) (o : Option A) (a : A) → cond b o none ≡ some a → (b ≡ true) × (o ≡ some a)
 chosen true o a e = (refl, e)
 chosen false o a e = (cc, cc)
 

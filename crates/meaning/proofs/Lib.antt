@@ -19,7 +19,11 @@ pub mod ReadBack
 pub mod Clash
 pub mod Linewise
 pub mod Stopped
+pub mod Plain
 pub mod ReadExactly
+pub mod Short
+pub mod Stored
+pub mod WriteBack
 pub mod Decode
 pub mod TableAfter
 pub mod WellFormed

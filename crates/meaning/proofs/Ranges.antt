@@ -25,7 +25,7 @@ pub read-in-range : (m : Limits) → ReadInRange m
 read-in-range m instance plan r = files-in-range m (r .says) (r .stacks) .0 (read-meets m instance plan r)
 
 -- ---- what meets the forms has room in the table
-truck-fits : (t : Truck) → TruckMeets t → TruckFits t
+pub truck-fits : (t : Truck) → TruckMeets t → TruckFits t
 truck-fits t h =
     record {
       fields = omega (arith, h .fields .least, h .fields .most);

@@ -63,9 +63,28 @@ line-one k ns h = not-in-append 10 (bytes k) (commaJoined (map digits ns)) h (be
 
 -- ---- a number is read back
 -- 10 to the n: the least number of more than n digits
-tens : ℕ → ℕ
+unfoldable pub tens : ℕ → ℕ
 tens zero = 1
 tens (suc n) = 10 * tens n
+
+-- at most `most` digits are written
+pub digits-most : (most n : ℕ) (tail : List ℕ) → length (digitsOnto most n tail) ≤ most + length tail
+unfolding digitsOnto
+digits-most zero n tail = omega arith
+digits-most (suc most) n tail =
+    by-less (λ (ds : List ℕ). length ds ≤ suc most + length tail) n 10 (λ small. omega arith)
+    (λ large. omega (arith, digits-most most (n / 10) ((48 + n % 10) ∷ tail)))
+
+-- a number below 10 to the k has at most k digits
+pub digits-few : (most k n : ℕ) (tail : List ℕ) → 1 ≤ k → n < tens k → length (digitsOnto most n tail) ≤ k + length tail
+unfolding tens digitsOnto
+digits-few zero k n tail one h = omega arith
+digits-few (suc most) zero n tail one h = absurd (omega arith)
+digits-few (suc most) (suc zero) n tail one h =
+    by-less (λ (ds : List ℕ). length ds ≤ 1 + length tail) n 10 (λ small. omega arith) (λ large. absurd (omega arith))
+digits-few (suc most) (suc (suc k)) n tail one h =
+    by-less (λ (ds : List ℕ). length ds ≤ suc (suc k) + length tail) n 10 (λ small. omega arith)
+    (λ large. omega (arith, digits-few most (suc k) (n / 10) ((48 + n % 10) ∷ tail) (omega arith) (omega arith)))
 
 -- reading one digit more
 read-digit : (v d : ℕ) (tail : List ℕ) → d ≤ 9 → decimalFrom v ((48 + d) ∷ tail) ≡ decimalFrom (10 * v + d) tail

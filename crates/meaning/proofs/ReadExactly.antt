@@ -29,68 +29,13 @@ use Rattle.meaning.proofs.Ranges.{read-in-range}
 use Rattle.meaning.proofs.InRange.{files-in-range}
 use Rattle.meaning.proofs.Clash.{no-clash}
 use Rattle.meaning.proofs.ReadBack.{line-one, TenDigits, line-read}
-
--- ---- forms whose lines are read back
--- every upper end has at most ten digits
-abbrev TenDigitEnds : List Range → Type 0
-TenDigitEnds rs = Every (λ (r : Range). TenDigits (r .high)) rs
-
--- the key has no byte 10, and a line has entries, of at most ten digits
-record Plain (f : Form) : Type 0 where
-  oneLine : OneLine (bytes (f .key))
-  entries : 1 ≤ f .least
-  digits : (ns : List ℕ) → Meets f ns → Every TenDigits ns
-
--- lines with a range for each entry, and lines of identifiers
-plain-fields : (key : String) (rs : List Range) → OneLine (bytes key) → 1 ≤ length rs → TenDigitEnds rs → Plain (fieldsLine key rs)
-plain-fields key rs o l e = record { oneLine = o; entries = l; digits = λ ns h. ranges-below _ rs ns e (h .most) (h .fits) }
-
-plain-identifiers : (key : String) (most : ℕ) → OneLine (bytes key) → Plain (identifiersLine key most)
-plain-identifiers key most o =
-    record {
-      oneLine = o;
-      entries = omega arith;
-      digits = λ ns h. range-below _ 1 65535 ns (omega arith) (and-reads (all (between 1 65535) ns) (distinct ns) .0 (h .fits) .0);
-    }
-
--- an item's width ends at its length, and its nesting height below its height: these two are in range themselves
-plain-item : Plain itemLine
-unfolding any
-plain-item = record { oneLine = refl; entries = omega arith; digits = ten }
-  where
-    ten : (a : List ℕ) → Meets itemLine a → Every TenDigits a
-    ten a h =
-        let long : IL a ≤ 20000 = item-within a h 0 (omega arith) .1 in
-        let high : IH a ≤ 20000 = item-within a h 2 (omega arith) .1 in
-        ranges-below _ (itemRanges a) a (omega arith) (h .most) (h .fits)
-
-plain-truck : Plain truckLine
-unfolding any
-plain-truck = plain-fields "truck=" truckRanges refl (omega arith) (omega arith)
-
--- a stack's truck and the items of a load are at most as many as there are
-plain-stack : (trucks : ℕ) (earlier : List ℕ) → TenDigits trucks → Plain (stackLine trucks earlier)
-unfolding any
-plain-stack trucks earlier e =
-    record {
-      oneLine = refl;
-      entries = omega arith;
-      digits =
-          λ ns h.
-          ranges-below _ (stackRanges trucks) ns (omega arith) (h .most)
-          (and-reads (allWithin (stackRanges trucks) ns) (not (listed (stackNumber ns) earlier)) .0 (h .fits) .0);
-    }
-
-plain-load : (most items loaded : ℕ) → TenDigits items → Plain (loadLine most items loaded)
-unfolding any
-plain-load most items loaded e =
-    record {
-      oneLine = refl;
-      entries = omega arith;
-      digits = λ ns h. range-below _ 1 items ns e (and-reads (all (between 1 items) ns) (leb (loaded + length ns) most) .0 (h .fits) .0);
-    }
+use Rattle.meaning.proofs.Plain.{Plain, plain-fields, plain-identifiers, plain-item, plain-truck, plain-stack, plain-load}
 
 -- ---- what a reader finds in a text
+-- numbers below this end have at most ten digits
+abbrev tenDigits : ℕ
+tenDigits = 10000000000
+
 -- from line n on, r finds a in the text, whatever bytes follow, and leaves those and the line number `after n`
 record Reads {A : Type 0} (a : A) (text : List ℕ) (r : Reader A) : Type 0 where
   after : ℕ → ℕ
@@ -113,9 +58,9 @@ module _ {A B : Type 0} {b : B} {run : List ℕ} {r : Reader B} where
   reads-last f h = record { after = h .after; reads = λ n rest. rw (h .reads n rest) }
 
 -- a line, where its numbers are written out
-reads-line : {f : Form} {ns : List ℕ} → Plain f → Meets f ns → Reads ns (ended (printedLine (f .key) ns)) (line f)
+reads-line : {f : Form} {ns : List ℕ} → Plain tenDigits f → Meets f ns → Reads ns (ended (printedLine (f .key) ns)) (line f)
 reads-line {f} {ns} s h =
-    let back = line-read (f .key) ns (omega (arith, s .entries, h .least)) (s .digits ns h) in
+    let back = line-read (f .key) ns (omega (arith, s .entries, h .least)) (s .below ns h) in
     record { after = suc; reads = λ n rest. finds-ended f (printedLine (f .key) ns) rest n ns (line-one (f .key) ns (s .oneLine)) back h }
 
 -- a line with one number
@@ -124,7 +69,7 @@ reads-number : (key : String) (r : Range) (v : ℕ) → OneLine (bytes key) → 
 unfolding numberLine allWithin
 reads-number key r v o e low high =
     let fits = and-reads (between (r .low) (r .high) v) true .1 (between-reads (r .low) (r .high) v .1 (low, high), refl) in
-    let s = plain-fields key (r ∷ []) o (omega arith) (e, tt) in
+    let s = plain-fields tenDigits key (r ∷ []) o (omega arith) (e, tt) in
     reads-last (λ ns. getD ns 0 0) (reads-line s (record { least = omega arith; most = omega arith; fits = fits }))
 
 -- as many values as there are texts, and so for lines of one form
@@ -133,7 +78,7 @@ unfolding times flatMap
 reads-times text r [] h = reads-none []
 reads-times text r (a ∷ l) h = reads-then _ (h .0) (reads-last (λ rest. a ∷ rest) (reads-times text r l (h .1)))
 
-reads-lines : {f : Form} (l : List (List ℕ)) → Plain f → Every (Meets f) l
+reads-lines : {f : Form} (l : List (List ℕ)) → Plain tenDigits f → Every (Meets f) l
     → Reads l (flatMap (λ ns. ended (printedLine (f .key) ns)) l) (times (length l) (line f))
 reads-lines {f} l s h = reads-times _ (line f) l (every-map (Meets f) _ (λ ns k. reads-line s k) l h)
 
@@ -141,11 +86,11 @@ reads-lines {f} l s h = reads-times _ (line f) l (every-map (Meets f) _ (λ ns k
 reads-truck : (t : Truck) → TruckMeets t → Reads t (printedTruck t) truckLines
 unfolding truckLines printedTruck any
 reads-truck t h =
-    reads-then _ (reads-line plain-truck (h .fields))
-    (reads-then _ (reads-line (plain-identifiers "products=" 32 refl) (h .products))
-    (reads-then _ (reads-line (plain-identifiers "suppliers=" 8 refl) (h .suppliers))
-    (reads-then _ (rw (h .dockLines) at (reads-lines (t .docks) (plain-identifiers "docks=" 8 refl) (h .docks)))
-    (reads-last _ (reads-line (plain-identifiers "plantdocks=" 8 refl) (h .plantDocks))))))
+    reads-then _ (reads-line (plain-truck tenDigits (omega arith)) (h .fields))
+    (reads-then _ (reads-line (plain-identifiers tenDigits (omega arith) "products=" 32 refl) (h .products))
+    (reads-then _ (reads-line (plain-identifiers tenDigits (omega arith) "suppliers=" 8 refl) (h .suppliers))
+    (reads-then _ (rw (h .dockLines) at (reads-lines (t .docks) (plain-identifiers tenDigits (omega arith) "docks=" 8 refl) (h .docks)))
+    (reads-last _ (reads-line (plain-identifiers tenDigits (omega arith) "plantdocks=" 8 refl) (h .plantDocks))))))
 
 reads-instance : (m : Limits) → TenDigitLimits m → (i : Instance) → InstanceMeets m i → Reads i (printedInstance i) (instanceLines m)
 unfolding instanceLines printedInstance any
@@ -155,7 +100,7 @@ reads-instance m few i h =
     (reads-then _ (reads-number "extra=" (0 to 1000) (i .αE) refl (omega arith) (omega arith) (h .head .αE))
     (reads-then _ (reads-number "items=" (1 to m .items) (length (i .items)) refl (omega (arith, few .items)) (h .head .someItem) (h .head .itemCount))
     (reads-then _ (reads-number "trucks=" (1 to m .trucks) (length (i .trucks)) refl (omega (arith, few .trucks)) (h .head .someTruck) (h .head .truckCount))
-    (reads-then _ (reads-lines (i .items) plain-item (h .items))
+    (reads-then _ (reads-lines (i .items) (plain-item tenDigits (omega arith)) (h .items))
     (reads-last _ (reads-times printedTruck truckLines (i .trucks) (every-map TruckMeets _ reads-truck (i .trucks) (h .trucks)))))))))
 
 -- ---- the plan
@@ -166,8 +111,8 @@ module _ (most items trucks : ℕ) (fewItems : TenDigits items) (fewTrucks : Ten
   reads-stacks earlier loaded [] h = reads-none []
   reads-stacks earlier loaded (s ∷ p) h =
       rw (append-assoc (ended (printedLine "stack=" (s .fields))) (ended (printedLine "load=" (s .load))) (flatMap pairBytes (map printedStack p)))
-      (reads-then _ (reads-line (plain-stack trucks earlier fewTrucks) (h .0))
-      (reads-then _ (reads-line (plain-load most items loaded fewItems) (h .1))
+      (reads-then _ (reads-line (plain-stack tenDigits (omega arith) trucks earlier fewTrucks) (h .0))
+      (reads-then _ (reads-line (plain-load tenDigits most items loaded fewItems) (h .1))
       (reads-last (λ rest. s ∷ rest) (reads-stacks (number s ∷ earlier) (loaded + length (s .load)) p (h .2)))))
 
 reads-plan : (m : Limits) → TenDigitLimits m → (i : Instance) (p : List Stack) → FilesMeet m i p → Reads p (printedPlan p) (planLines m i)

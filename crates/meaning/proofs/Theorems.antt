@@ -12,6 +12,9 @@ use Rattle.meaning.proofs.Stopped.{handed-back-refused}
 use Rattle.meaning.proofs.Readable.{readable-exactly, decided}
 use Rattle.meaning.proofs.Feasible.{loading-kept-exactly, accepted-when-feasible}
 use Rattle.meaning.proofs.AnyOrder.{order-free, any-order}
+use Rattle.meaning.proofs.Short.{printed-short}
+use Rattle.meaning.proofs.Stored.{stored-exactly}
+use Rattle.meaning.proofs.WriteBack.{writes-back}
 
 pub theorems : (m : Limits) → Theorems m
 theorems m =
@@ -32,4 +35,7 @@ theorems m =
       acceptedWhenFeasible = accepted-when-feasible m;
       orderFree = order-free m;
       anyOrder = any-order m;
+      printedShort = printed-short m;
+      storedExactly = stored-exactly m;
+      writesBack = writes-back m;
     }

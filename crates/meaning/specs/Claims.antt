@@ -1,13 +1,15 @@
 -- What is proved of the definitions, as statements over the limits. The proofs are in proofs/, each under the name given here.
 use mathlib.Core.Path.{_≡_}
 use mathlib.Core.Logic.{_⊎_, _↔_}
+use mathlib.Core.Bool.{true}
 use mathlib.Core.Option.{Option, none, some}
 use mathlib.Core.List.{List, [], _∷_, _++_, map, List·Permᴰ}
-use Prim.Native.Nat.{ℕ, _≤_, _<_}
+use Prim.Native.Nat.{ℕ, _+_, _*_, _≤_, _<_}
 use lib.ListN.{length, take, drop, replicate}
 use Rattle.meaning.specs.declared.Limits.{Limits}
 use Rattle.meaning.specs.declared.Place.{Place}
 use Rattle.meaning.specs.declared.Answer.{Answer}
+use Rattle.meaning.specs.declared.Written.{Written}
 use Rattle.meaning.specs.Lists.{In, Every}
 use Rattle.meaning.specs.Limits.{named}
 use Rattle.meaning.specs.Model.{Instance, Truck, Stack, Item}
@@ -20,6 +22,7 @@ use Rattle.meaning.specs.Feasible.{LoadingFeasible, Feasible}
 use Rattle.meaning.specs.Reorder.{Reordered}
 use Rattle.meaning.specs.Stopped.{HandedBackRefused}
 use Rattle.meaning.specs.Print.{printedInstance, printedPlan}
+use Rattle.meaning.specs.Write.{stored, writeFiles, written, over, instanceAfter, planAfter}
 use Rattle.meaning.specs.Files.{Field, itemFields, truckFields, stackFields}
 use Rattle.meaning.specs.InRange.{InRange, NoClash, Fits}
 use Rattle.meaning.specs.Measures.{usedTrucks}
@@ -234,6 +237,81 @@ AnyOrder m =
     (instance plan : List ℕ) (r : Readable m instance plan) (p′ : List Stack) → List·Permᴰ (r .stacks) p′
     → InOrder m instance plan (r .says) p′
 
+-- ---- F-1: the files written back from a table (proofs/Short: printed-short; proofs/Stored: stored-exactly; proofs/WriteBack: writes-back)
+-- how many bytes the files of a model in range have at most: a number of an item's or a truck's line has at most seven digits, any other ten, and
+-- one byte stands behind each. So an item's line has 133 bytes, a truck's lines 1140, a stack's line 72, a load's line 5 and 11 for each entry
+abbrev pub instanceMost : Limits → ℕ
+instanceMost m = 85 + 133 * m .items + 1140 * m .trucks
+
+abbrev pub planMost : Limits → ℕ
+planMost m = 18 + 77 * m .stacks + 11 * m .loads
+
+-- this follows from the ranges
+abbrev pub PrintedShort : Limits → Type 0
+PrintedShort m =
+    (i : Instance) (p : List Stack) → InRange m i p → (length (printedInstance i) ≤ instanceMost m) × (length (printedPlan p) ≤ planMost m)
+
+-- two files can be read, and a check of them fills the named words of the table with what stands there
+pub record FilledBy (m : Limits) (table instance plan : List ℕ) : Type 0 where
+  pub room : named m ≤ length table
+  pub files : Readable m instance plan
+  pub fills : take (named m) (tableAfter m table instance plan) ≡ take (named m) table
+
+-- some two files are such: "a table filled by the check"
+pub record FilledBySome (m : Limits) (table : List ℕ) : Type 0 where
+  pub instance : List ℕ
+  pub plan : List ℕ
+  pub filled : FilledBy m table instance plan
+
+-- the test of the words tells exactly this
+abbrev pub StoredExactly : Limits → Type 0
+StoredExactly m = (table : List ℕ) → (stored m table ≡ true) ↔ FilledBySome m table
+
+-- "each into a lent buffer of 65,535 bytes or more"
+pub record Roomy (m : Limits) (instance plan : List ℕ) : Type 0 where
+  pub instanceRoom : m .bytes ≤ length instance
+  pub planRoom : m .bytes ≤ length plan
+
+-- two files stand in the buffers, with what stood behind them, and their lengths are answered
+pub record HoldsFiles (file₁ file₂ instance₀ plan₀ instance plan : List ℕ) (r : Written) : Type 0 where
+  pub number : r .number ≡ 0
+  pub instanceLength : r .«instance_length» ≡ length file₁
+  pub planLength : r .«plan_length» ≡ length file₂
+  pub instanceBytes : instance ≡ over file₁ instance₀
+  pub planBytes : plan ≡ over file₂ plan₀
+
+-- nothing is written: "both lengths are then 0 and both buffers untouched"
+pub record NothingWritten (instance₀ plan₀ instance plan : List ℕ) (r : Written) : Type 0 where
+  pub instanceLength : r .«instance_length» ≡ 0
+  pub planLength : r .«plan_length» ≡ 0
+  pub instanceBytes : instance ≡ instance₀
+  pub planBytes : plan ≡ plan₀
+
+-- a writing from a table, which found the bytes instance₀ and plan₀ in the buffers and left instance and plan
+pub record WritingPromise (m : Limits) (table instance₀ plan₀ instance plan : List ℕ) (r : Written) : Type 0 where
+  -- which number is answered: 29 before 30, and 0 otherwise
+  pub short : (r .number ≡ 29) ↔ (Roomy m instance₀ plan₀ → ⊥)
+  pub unfilled : (r .number ≡ 30) ↔ (Roomy m instance₀ plan₀ × (FilledBySome m table → ⊥))
+  pub writes : (r .number ≡ 0) ↔ (Roomy m instance₀ plan₀ × FilledBySome m table)
+  -- "both lengths are then 0 and both buffers untouched"
+  pub refused : (r .number ≡ 0 → ⊥) → NothingWritten instance₀ plan₀ instance plan r
+  -- "at most 65,535"
+  pub instanceLength : r .«instance_length» ≤ m .bytes
+  pub planLength : r .«plan_length» ≤ m .bytes
+  -- "A file read and written out is the same bytes": of the files that a check filled the table with, whatever it found there
+  pub sameBytes : Roomy m instance₀ plan₀ → (file₁ file₂ table₀ : List ℕ) → Readable m file₁ file₂ → named m ≤ length table₀
+      → tableAfter m table₀ file₁ file₂ ≡ table → HoldsFiles file₁ file₂ instance₀ plan₀ instance plan r
+  -- "the written pair read back gives the same named words", whatever the table held that it is read into
+  pub sameWords : r .number ≡ 0 → (table₀ : List ℕ) → named m ≤ length table₀
+      → take (named m) (tableAfter m table₀ (take (r .«instance_length») instance) (take (r .«plan_length») plan)) ≡ take (named m) table
+
+-- this holds of every table and all buffers
+abbrev pub WritesBack : Limits → Type 0
+WritesBack m =
+    (table instance plan : List ℕ)
+    → let w = writeFiles m table (length instance) (length plan) in
+    WritingPromise m table instance plan (instanceAfter w instance) (planAfter w plan) (written w)
+
 -- ---- all of them, for limits m (proofs/Theorems: theorems)
 pub record Theorems (m : Limits) : Type 0 where
   pub lowestPlace : LowestPlace
@@ -252,3 +330,6 @@ pub record Theorems (m : Limits) : Type 0 where
   pub acceptedWhenFeasible : AcceptedWhenFeasible m
   pub orderFree : OrderFree m
   pub anyOrder : AnyOrder m
+  pub printedShort : PrintedShort m
+  pub storedExactly : StoredExactly m
+  pub writesBack : WritesBack m

@@ -1,10 +1,15 @@
--- Worked cases of reading, of the line handed back and of the working table. They are computed in proofs/Answers.
+-- Worked cases of reading, of the line handed back, of the working table and of the files written back. They are computed in proofs/Answers.
 use mathlib.Core.List.{List, [], _∷_, _++_}
-use Prim.Native.Nat.{ℕ}
-use lib.ListN.{length, take, drop}
+use Prim.Native.Nat.{ℕ, _+_}
+use lib.ListN.{length, take, drop, set, replicate}
+use Rattle.meaning.specs.declared.Limits.{Limits}
+use Rattle.meaning.specs.Limits.{itemsAt, trucksAt, stacksAt, loadsAt, named}
 use Rattle.meaning.specs.Text.{bytes}
+use Rattle.meaning.specs.Check.{tableAfter}
+use Rattle.meaning.specs.Write.{writeFiles, written}
 use Rattle.meaning.specs.BadLine.{Part, handedBack, partBytes}
 use Rattle.meaning.specs.Example.{Lines, fileOf, entry, line, Case, edits, edited, exampleInstance, examplePlan}
+use Rattle.meaning.specs.ExampleRules.{unevenInstance, unevenPlan}
 
 -- ---- reading, on the load of document 01
 abbrev pub readingCases : List Case
@@ -155,4 +160,91 @@ unevenWords =
     -- the word before the loads, the loads, the word behind them; the last named word and the word beyond, which stays
     ∷ record { from = 8719; words = 0 ∷ 6 ∷ 2 ∷ 4 ∷ 8 ∷ 3 ∷ 1 ∷ 7 ∷ 5 ∷ 0 ∷ [] }
     ∷ record { from = 8975; words = 0 ∷ 5 ∷ [] }
+    ∷ []
+
+-- ---- files written back
+-- limits with room for one item, truck, stack and load entry more than the uneven load has
+abbrev pub close : Limits
+close = record { items = 9; trucks = 3; stacks = 6; loads = 9; bytes = 2000 }
+
+-- the table of the uneven load, with a word beyond
+abbrev pub unevenTable : List ℕ
+unevenTable = tableAfter close (replicate (named close + 1) 5) (fileOf unevenInstance) (fileOf unevenPlan)
+
+-- a word of the table changed, and the number that writing then answers
+pub record Change : Type 0 where
+  pub at : ℕ
+  pub word : ℕ
+  pub answer : ℕ
+
+-- a change by its place, the word and the answer
+abbrev pub change : ℕ → ℕ → ℕ → Change
+change at word answer = record { at = at; word = word; answer = answer }
+
+-- what is answered, for buffers just long enough
+abbrev pub answeredChange : Change → ℕ
+answeredChange c = written (writeFiles close (set unevenTable (c .at) (c .word)) 2000 2000) .number
+
+-- each way in which no readable pair of files fills a table, beside changes that one does
+abbrev pub changes : List Change
+changes =
+    -- the head: αT in and out of its range; a spare word
+    change 0 8 0
+    ∷ change 0 1001 30
+    ∷ change 6 1 30
+    ∷ change 15 1 30
+    -- counts of items, trucks and stacks, one too few and one too many
+    ∷ change 3 7 30
+    ∷ change 3 9 30
+    ∷ change 4 1 30
+    ∷ change 4 3 30
+    ∷ change 5 4 30
+    ∷ change 5 6 30
+    -- items: IL of the only item of its code; IW that clashes; IH out of range; the word behind the last item
+    ∷ change itemsAt 1401 0
+    ∷ change (itemsAt + 17) 799 30
+    ∷ change (itemsAt + 2) 0 30
+    ∷ change (itemsAt + 128) 1 30
+    -- a truck: TH in and out of range
+    ∷ change (trucksAt close + 2) 1901 0
+    ∷ change (trucksAt close + 2) 20001 30
+    -- products: another; a repeat; one out of range; the count too low and too high; an entry behind the count
+    ∷ change (trucksAt close + 21) 213 0
+    ∷ change (trucksAt close + 21) 219 30
+    ∷ change (trucksAt close + 21) 65536 30
+    ∷ change (trucksAt close + 20) 1 30
+    ∷ change (trucksAt close + 20) 3 30
+    ∷ change (trucksAt close + 20) 33 30
+    ∷ change (trucksAt close + 23) 1 30
+    -- suppliers: one fewer, whose docks are then of a supplier that is not there; one more
+    ∷ change (trucksAt close + 53) 1 30
+    ∷ change (trucksAt close + 53) 3 30
+    -- docks: a count at odds with its entries; the count and a dock of a supplier that is not there
+    ∷ change (trucksAt close + 62) 1 30
+    ∷ change (trucksAt close + 63) 3 30
+    ∷ change (trucksAt close + 64) 1 30
+    ∷ change (trucksAt close + 86) 1 30
+    -- plant docks: none; the first and the last spare word; the first word of a truck that is not there
+    ∷ change (trucksAt close + 134) 0 30
+    ∷ change (trucksAt close + 143) 1 30
+    ∷ change (trucksAt close + 159) 1 30
+    ∷ change (trucksAt close + 320) 1 30
+    -- stacks: another number, a repeated one; a truck that is not there; orientation
+    ∷ change (stacksAt close + 8) 13 0
+    ∷ change (stacksAt close + 8) 31 30
+    ∷ change (stacksAt close + 9) 3 30
+    ∷ change (stacksAt close + 13) 1 0
+    ∷ change (stacksAt close + 13) 3 30
+    -- the first load index is the running total; a load count at odds with it, none, and one too many; the word behind the stacks
+    ∷ change (stacksAt close + 14) 2 30
+    ∷ change (stacksAt close + 7) 2 30
+    ∷ change (stacksAt close + 39) 0 30
+    ∷ change (stacksAt close + 39) 2 30
+    ∷ change (stacksAt close + 40) 1 30
+    -- the loads: another item, one that is not there, none; the word behind them, which is the last; the word beyond the named ones
+    ∷ change (loadsAt close) 5 0
+    ∷ change (loadsAt close) 9 30
+    ∷ change (loadsAt close) 0 30
+    ∷ change (loadsAt close + 8) 1 30
+    ∷ change (loadsAt close + 9) 1 0
     ∷ []

@@ -15,6 +15,7 @@ pub mod Feasible
 pub mod Reorder
 pub mod Stopped
 pub mod Print
+pub mod Write
 pub mod InRange
 pub mod Meets
 pub mod Claims

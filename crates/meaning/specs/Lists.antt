@@ -90,6 +90,13 @@ orderFrom k n (m ∷ l) = let later = orderFrom (suc k) n l in cond (eqb n m) k 
 abbrev pub orderIn : List ℕ → ℕ → ℕ
 orderIn l n = orderFrom 1 n l
 
+-- two lists have the same numbers
+unfoldable pub sameNumbers : List ℕ → List ℕ → Bool
+sameNumbers [] [] = true
+sameNumbers [] (n ∷ l) = false
+sameNumbers (n ∷ l) [] = false
+sameNumbers (n ∷ l) (k ∷ r) = eqb n k && sameNumbers l r
+
 -- the numbers, and zeros after them up to w words
 abbrev pub padded : ℕ → List ℕ → List ℕ
 padded w l = l ++ replicate (w - length l) 0

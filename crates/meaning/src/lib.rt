@@ -1,4 +1,4 @@
-// The numbers that the check is given and the numbers that it answers. Their meaning is defined in specs/.
+// The numbers that the calls are given and the numbers that they answer. Their meaning is defined in specs/.
 
 // The sizes that both files and the working table are held to: how many items, trucks, stacks and load entries
 // there may be, and how many bytes each file may have.
@@ -27,4 +27,13 @@ pub struct Answer {
     pub third: u32,
     pub cost: u64,
     pub trucks: u32,
+}
+
+// The answer of writing the two files from a table: verdict number, 0 where they are written, and the length of each file in bytes. Its fields
+// lie as in C too.
+#[repr(C)]
+pub struct Written {
+    pub number: u32,
+    pub instance_length: usize,
+    pub plan_length: usize,
 }
