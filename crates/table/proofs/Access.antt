@@ -77,9 +77,12 @@ module _ {m : Limits} {t : List ℕ} (h : Filled m t) where
       sum-most (λ n. IM (item i n)) 0 50000 (s .load) (λ j k. item-most (item i (getD (s .load) j 0)) (item-in _ (b .entries j k)) 4 (omega arith))
 
   -- ---- the words of an item
+  pub item-whole : (n : ℕ) → ItemNumber (instanceIn m t) n → {words : List ℕ} → words ≡ part (itemPlace n) 16 t → words ≡ item (instanceIn m t) n
+  item-whole n k e = e ∙ sym (item-row m t n k)
+
   pub item-read : (n f : ℕ) → ItemNumber (instanceIn m t) n → f < 16 → {words : List ℕ} → words ≡ part (itemPlace n) 16 t
       → (getD words f 0 ≡ getD (item (instanceIn m t) n) f 0) × (getD words f 0 ≤ itemMost f)
-  item-read n f k l e = let same = e ∙ sym (item-row m t n k) in rw same (refl, item-most (item (instanceIn m t) n) (item-in n k) f l)
+  item-read n f k l e = let same = item-whole n k e in rw same (refl, item-most (item (instanceIn m t) n) (item-in n k) f l)
 
   -- ---- the words of a truck
   module _ {n : ℕ} (k : TruckNumber (instanceIn m t) n) {words : List ℕ} (e : words ≡ part (truckPlace m n) 160 t) (long : length words ≡ 160) where
@@ -93,6 +96,10 @@ module _ {m : Limits} {t : List ℕ} (h : Filled m t) where
         sym (ap (λ (a : Truck). getD (a .fields) f 0) truck-is ∙ getD-take 20 words f 0 l)
         in
         (same, rw same (truck-most (truckNumbered (instanceIn m t) n .fields) (truck-in n k .fields) f l))
+
+    pub truck-whole : {r : List ℕ} → r ≡ part 0 20 words → r ≡ truckNumbered (instanceIn m t) n .fields
+    unfolding truckIn
+    truck-whole w = w ∙ sym (ap (λ (a : Truck). a .fields) truck-is)
 
     -- a list that stands behind its count
     module _ {list : Truck → List ℕ} {at most : ℕ} (l : BehindCount list at most) where
@@ -144,6 +151,10 @@ module _ {m : Limits} {t : List ℕ} (h : Filled m t) where
         sym (ap (λ (a : Stack). getD (a .fields) f 0) stack-is ∙ getD-take 6 words f 0 l)
         in
         (same, rw same (stack-field-most s k f l))
+
+    pub stack-whole : {r : List ℕ} → r ≡ part 0 6 words → r ≡ stackAt (stacksIn m t) s .fields
+    unfolding stackIn
+    stack-whole w = w ∙ sym (ap (λ (a : Stack). a .fields) stack-is)
 
     -- its load stands within the words of the loads
     pub load-room : getD words 6 0 + getD words 7 0 ≤ m .loads

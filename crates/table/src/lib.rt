@@ -21,6 +21,7 @@ use layout::LOAD_FIRST;
 use layout::PLANT_DOCKS;
 use layout::PRODUCTS;
 use layout::STACK_COUNT;
+use layout::STACK_FIELDS;
 use layout::STACK_WORDS;
 use layout::SUPPLIER_DOCKS;
 use layout::SUPPLIERS;
@@ -144,6 +145,30 @@ pub fn stack_words<'a>(t: &'a [u32], limits: Limits, s: usize) -> &'a [u32]
     words_from(t, stacks_at(limits) + STACK_WORDS * s, STACK_WORDS)
 }
 
+// The words of all items, of all trucks and of all stacks.
+pub fn words_of_items<'a>(t: &'a [u32], limits: Limits) -> &'a [u32]
+    requires { ⌜ Room limits (now t) ⌝ }
+    ensures { λ r. ⌜ (now r ≡ take (16 * limits .items) (drop 16 (now (t .entry)))) × (length (now r) ≡ 16 * limits .items) ⌝ }
+{
+    words_from(t, HEAD_WORDS, ITEM_WORDS * limits.items)
+}
+
+pub fn words_of_trucks<'a>(t: &'a [u32], limits: Limits) -> &'a [u32]
+    requires { ⌜ Room limits (now t) ⌝ }
+    ensures { λ r. ⌜ (now r ≡ take (160 * limits .trucks) (drop (trucksAt limits) (now (t .entry))))
+        × (length (now r) ≡ 160 * limits .trucks) ⌝ }
+{
+    words_from(t, trucks_at(limits), TRUCK_WORDS * limits.trucks)
+}
+
+pub fn words_of_stacks<'a>(t: &'a [u32], limits: Limits) -> &'a [u32]
+    requires { ⌜ Room limits (now t) ⌝ }
+    ensures { λ r. ⌜ (now r ≡ take (8 * limits .stacks) (drop (stacksAt limits) (now (t .entry))))
+        × (length (now r) ≡ 8 * limits .stacks) ⌝ }
+{
+    words_from(t, stacks_at(limits), STACK_WORDS * limits.stacks)
+}
+
 // The words of all loads.
 pub fn load_words<'a>(t: &'a [u32], limits: Limits) -> &'a [u32]
     requires { ⌜ Room limits (now t) ⌝ }
@@ -220,6 +245,14 @@ pub fn item_field(t: &[u32], limits: Limits, n: u32, field: usize) -> u32
     words[field]
 }
 
+// All fields of an item's line.
+pub fn item_fields<'a>(t: &'a [u32], limits: Limits, n: u32) -> &'a [u32]
+    requires { ⌜ Filled limits (now t) × ItemNumber (instanceIn limits (now t)) n ⌝ }
+    ensures { λ r. ⌜ (now r ≡ item (instanceIn limits (now (t .entry))) n) × (length (now r) ≡ 16) ⌝ }
+{
+    item_words(t, limits, n)
+}
+
 // A field of a truck's line.
 pub fn truck_field(t: &[u32], limits: Limits, n: u32, field: usize) -> u32
     requires { ⌜ Filled limits (now t) × TruckNumber (instanceIn limits (now t)) n × (field < 20) ⌝ }
@@ -227,6 +260,14 @@ pub fn truck_field(t: &[u32], limits: Limits, n: u32, field: usize) -> u32
 {
     let words = truck_words(t, limits, n);
     words[field]
+}
+
+// All fields of a truck's own line.
+pub fn truck_fields<'a>(t: &'a [u32], limits: Limits, n: u32) -> &'a [u32]
+    requires { ⌜ Filled limits (now t) × TruckNumber (instanceIn limits (now t)) n ⌝ }
+    ensures { λ r. ⌜ (now r ≡ truckNumbered (instanceIn limits (now (t .entry))) n .fields) × (length (now r) ≡ 20) ⌝ }
+{
+    words_from(truck_words(t, limits, n), 0, PRODUCTS)
 }
 
 // The products that a truck carries.
@@ -305,6 +346,14 @@ pub fn stack_field(t: &[u32], limits: Limits, s: usize, field: usize) -> u32
 {
     let words = stack_words(t, limits, s);
     words[field]
+}
+
+// All fields of a stack's line.
+pub fn stack_fields<'a>(t: &'a [u32], limits: Limits, s: usize) -> &'a [u32]
+    requires { ⌜ Filled limits (now t) × (s < length (stacksIn limits (now t))) ⌝ }
+    ensures { λ r. ⌜ (now r ≡ stackAt (stacksIn limits (now (t .entry))) s .fields) × (length (now r) ≡ 6) ⌝ }
+{
+    words_from(stack_words(t, limits, s), 0, STACK_FIELDS)
 }
 
 // The number of the truck that a stack is on.
