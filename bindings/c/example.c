@@ -1,13 +1,13 @@
-/* How C calls the check: reads instance.txt and plan.txt of the folder that is given, and prints the answer and the bad line, if there is
- * one. Built from the top of the repository by
+/* How C calls the check: reads instance.txt and plan.txt of the folder that is given, and prints the answer; then the bad line, if there is
+ * one, or both files as the table gives them back, if they can be read. Built from the top of the repository by
  *     cc bindings/c/example.c -Ibindings/c target/staticlib/libkaqlluwe.a -o target/example */
 #include "kaqlluwe.h"
 
 #include <inttypes.h>
 #include <stdio.h>
 
-/* A file may have 65,535 bytes: one byte more shows that it is overlong. */
-#define FILE_BYTES 65536
+/* One byte more than a file may have shows that it is overlong. */
+#define FILE_BYTES (KAQLLUWE_FILE_BYTES + 1)
 
 static uint8_t instance[FILE_BYTES], plan[FILE_BYTES];
 static uint32_t table[KAQLLUWE_TABLE_WORDS];
@@ -39,5 +39,9 @@ int main(int count, char **arguments)
     kaqlluwe_part line = kaqlluwe_bad_line(instance, instance_bytes, plan, plan_bytes, answer.number, answer.first);
     if (line.start < line.end)
         printf("%.*s\n", (int)(line.end - line.start), (const char *)(line.plan ? plan : instance) + line.start);
+
+    kaqlluwe_written written = kaqlluwe_write(table, KAQLLUWE_TABLE_WORDS, instance, FILE_BYTES, plan, FILE_BYTES);
+    fwrite(instance, 1, written.instance_length, stdout);
+    fwrite(plan, 1, written.plan_length, stdout);
     return answer.number == 0 ? 0 : 1;
 }

@@ -16,11 +16,14 @@ mod reading_numbers;
 mod recipe;
 mod render;
 mod sized;
+mod table_edits;
+mod tables;
 
 use crate::table::NAMED_WORDS;
 use crate::{check, Answer};
 use packed::Case;
 use random::Random;
+pub use tables::ChangedTable;
 
 /// Two files, their answer, and a word on how they were made.
 #[derive(Debug, Clone, PartialEq, Eq)]
@@ -79,4 +82,11 @@ pub fn unreadable_at_the_end(stacks: u32, draw: u64) -> Made {
 /// of the last used truck. Each draw is a small edit of another accepted load.
 pub fn refused_at_the_end(stacks: u32, number: u32, draw: u64) -> Made {
     late::load(stacks, number, draw)
+}
+
+/// A filled table with one word changed or two exchanged, in many ways: words of every kind, also behind a count and beyond the named ones.
+/// After these come tables with several words changed together, which go with each other. Some of all these are still what a readable pair
+/// of files fills.
+pub fn changed_tables(table: &[u32]) -> impl Iterator<Item = ChangedTable> + '_ {
+    tables::changed(table).chain(table_edits::edited(table))
 }

@@ -15,6 +15,7 @@ pub mod tally;
 pub mod text;
 pub mod verdict;
 pub mod weights;
+pub mod writer;
 
 use loading::Loading;
 use model::{Instance, Plan};

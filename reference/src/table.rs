@@ -5,23 +5,23 @@ use crate::model::{Instance, Plan, Truck};
 /// Words the table names; a lent table may be longer.
 pub const NAMED_WORDS: usize = 8_976;
 
-const ITEMS: usize = 16;
-const ITEM_WORDS: usize = 16;
-const TRUCKS: usize = 4_112;
-const TRUCK_WORDS: usize = 160;
-const STACKS: usize = 6_672;
-const STACK_WORDS: usize = 8;
-const LOADS: usize = 8_720;
+pub(crate) const ITEMS: usize = 16;
+pub(crate) const ITEM_WORDS: usize = 16;
+pub(crate) const TRUCKS: usize = 4_112;
+pub(crate) const TRUCK_WORDS: usize = 160;
+pub(crate) const STACKS: usize = 6_672;
+pub(crate) const STACK_WORDS: usize = 8;
+pub(crate) const LOADS: usize = 8_720;
 
-const PRODUCT_COUNT: usize = 20;
-const PRODUCTS: usize = 21;
-const SUPPLIER_COUNT: usize = 53;
-const SUPPLIERS: usize = 54;
-const DOCK_COUNTS: usize = 62;
-const DOCKS: usize = 70;
-const DOCKS_PER_SUPPLIER: usize = 8;
-const PLANT_DOCK_COUNT: usize = 134;
-const PLANT_DOCKS: usize = 135;
+pub(crate) const PRODUCT_COUNT: usize = 20;
+pub(crate) const PRODUCTS: usize = 21;
+pub(crate) const SUPPLIER_COUNT: usize = 53;
+pub(crate) const SUPPLIERS: usize = 54;
+pub(crate) const DOCK_COUNTS: usize = 62;
+pub(crate) const DOCKS: usize = 70;
+pub(crate) const DOCKS_PER_SUPPLIER: usize = 8;
+pub(crate) const PLANT_DOCK_COUNT: usize = 134;
+pub(crate) const PLANT_DOCKS: usize = 135;
 
 /// Fills a table whose named words are zero.
 pub fn fill(table: &mut [u32], instance: &Instance, plan: &Plan) {

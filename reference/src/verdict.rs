@@ -62,6 +62,10 @@ pub const OVERLOAD: u32 = 26;
 pub const MIDDLE: u32 = 27;
 pub const REAR: u32 = 28;
 
+/// Refusals of the writer, which no check answers.
+pub const SHORT_BUFFER: u32 = 29;
+pub const UNFILLED_TABLE: u32 = 30;
+
 #[derive(Debug, Clone, Copy, PartialEq, Eq)]
 pub struct Refusal {
     pub number: u32,

@@ -1,4 +1,4 @@
-//! The example in C says what the program says.
+//! The example in C says what the program says, and gives back the files that it has read.
 
 mod c_programs;
 
@@ -6,8 +6,10 @@ use c_programs::{built, in_repository};
 use std::process::Command;
 
 #[test]
-fn the_example_in_c_prints_the_answer_and_the_bad_line() {
-    let accepted = std::fs::read_to_string(in_repository("crates/loadcheck/stdout")).unwrap();
+fn the_example_in_c_prints_the_answer_and_the_bad_line_or_the_files() {
+    let text = |path: &str| std::fs::read_to_string(in_repository(path)).unwrap();
+    let files = text("examples/one_load/instance.txt") + &text("examples/one_load/plan.txt");
+    let accepted = text("crates/loadcheck/stdout") + &files;
     let refused = "number=7\nfirst=2\nsecond=0\nthird=0\ncost=0\ntrucks=0\nstack=1,1,0,0,1\n".to_string();
     let example = built("example");
     for (folder, printed, status) in [

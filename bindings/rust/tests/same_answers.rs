@@ -6,21 +6,21 @@ mod responder;
 
 use kaqlluwe::TABLE_WORDS;
 use reference::generator::{self, Made};
-use responder::Responder;
+use responder::{Call, Responder};
 use std::collections::BTreeSet;
 
 /// What a call leaves behind: the six numbers, the words of the table, and where the bad line of that answer stands.
-pub struct Outcome {
-    pub answer: [u64; 6],
-    pub table: Vec<u32>,
-    pub bad_line: BadLine,
+struct Outcome {
+    answer: [u64; 6],
+    table: Vec<u32>,
+    bad_line: BadLine,
 }
 
 #[derive(Debug, PartialEq)]
-pub struct BadLine {
-    pub in_plan: bool,
-    pub start: usize,
-    pub end: usize,
+struct BadLine {
+    in_plan: bool,
+    start: usize,
+    end: usize,
 }
 
 /// Random cases besides the fixed ones.
@@ -77,6 +77,22 @@ fn located(instance: &[u8], plan: &[u8], part: &[u8]) -> BadLine {
     }
 }
 
+fn answered_in_c(responder: &mut Responder, case: &Made, words: usize) -> Outcome {
+    responder.send(Call::Check, &case.instance, &case.plan, &table_before(words));
+    let answer = responder.numbers();
+    let table = responder.words(words);
+    let [plan, start, end] = responder.numbers();
+    Outcome {
+        answer,
+        table,
+        bad_line: BadLine {
+            in_plan: plan == 1,
+            start: start as usize,
+            end: end as usize,
+        },
+    }
+}
+
 fn all_cases() -> impl Iterator<Item = Made> {
     let fixed = generator::reading().into_iter().chain(generator::checking());
     fixed.chain(generator::random(RANDOM_CASES, SEED, false))
@@ -108,6 +124,6 @@ fn rust_is_answered_as_the_reference_answers() {
 #[test]
 fn c_is_answered_as_the_reference_answers() {
     let mut responder = Responder::start();
-    agrees_with_reference(|case, words| responder.call(case, table_before(words)));
+    agrees_with_reference(|case, words| answered_in_c(&mut responder, case, words));
     responder.end();
 }

@@ -2,7 +2,9 @@
 
 #![allow(dead_code)] // each test file uses a part
 
+pub mod buffers;
 pub mod generator;
+pub mod naive;
 
 use reference::table::NAMED_WORDS;
 use reference::{check, Answer};

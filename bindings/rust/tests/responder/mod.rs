@@ -1,10 +1,17 @@
-//! The responder in C: a process that is sent checks and sends back what each call left behind.
+//! The responder in C: a process that is sent calls and sends back what each left behind.
+
+#![allow(dead_code)] // each test file uses a part
 
 use crate::c_programs::built;
-use crate::{BadLine, Outcome};
-use reference::generator::Made;
 use std::io::{Read, Write};
 use std::process::{Child, ChildStdin, ChildStdout, Command, Stdio};
+
+/// Which call it is to make.
+#[derive(Clone, Copy)]
+pub enum Call {
+    Check = 0,
+    Write = 1,
+}
 
 pub struct Responder {
     process: Child,
@@ -26,23 +33,18 @@ impl Responder {
         }
     }
 
-    /// A check is read whole before it is answered, so sending all of it cannot block for ever.
-    pub fn call(&mut self, case: &Made, table: Vec<u32>) -> Outcome {
-        for size in [case.instance.len(), case.plan.len(), table.len()] {
-            self.to.write_all(&(size as u64).to_ne_bytes()).unwrap();
+    /// A call is read whole before it is answered, so sending all of it cannot block for ever.
+    pub fn send(&mut self, call: Call, instance: &[u8], plan: &[u8], table: &[u32]) {
+        for number in [call as usize, instance.len(), plan.len(), table.len()] {
+            self.to.write_all(&(number as u64).to_ne_bytes()).unwrap();
         }
-        self.to.write_all(&case.instance).unwrap();
-        self.to.write_all(&case.plan).unwrap();
+        self.to.write_all(instance).unwrap();
+        self.to.write_all(plan).unwrap();
         let words: Vec<u8> = table.iter().flat_map(|word| word.to_ne_bytes()).collect();
         self.to.write_all(&words).unwrap();
-        Outcome {
-            answer: self.numbers(),
-            table: self.words(table.len()),
-            bad_line: self.bad_line(),
-        }
     }
 
-    fn numbers<const COUNT: usize>(&mut self) -> [u64; COUNT] {
+    pub fn numbers<const COUNT: usize>(&mut self) -> [u64; COUNT] {
         [(); COUNT].map(|()| {
             let mut bytes = [0; 8];
             self.from.read_exact(&mut bytes).unwrap();
@@ -50,20 +52,16 @@ impl Responder {
         })
     }
 
-    fn words(&mut self, count: usize) -> Vec<u32> {
-        let mut bytes = vec![0; 4 * count];
+    pub fn bytes(&mut self, count: usize) -> Vec<u8> {
+        let mut bytes = vec![0; count];
         self.from.read_exact(&mut bytes).unwrap();
-        let words = bytes.chunks_exact(4);
-        words.map(|word| u32::from_ne_bytes(word.try_into().unwrap())).collect()
+        bytes
     }
 
-    fn bad_line(&mut self) -> BadLine {
-        let [plan, start, end] = self.numbers();
-        BadLine {
-            in_plan: plan == 1,
-            start: start as usize,
-            end: end as usize,
-        }
+    pub fn words(&mut self, count: usize) -> Vec<u32> {
+        let bytes = self.bytes(4 * count);
+        let words = bytes.chunks_exact(4);
+        words.map(|word| u32::from_ne_bytes(word.try_into().unwrap())).collect()
     }
 
     /// Nothing more is sent, so the process has to end, and well.
