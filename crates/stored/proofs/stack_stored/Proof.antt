@@ -1,5 +1,9 @@
 -- The words of the load's first index and count are numbers like any other.
-use mathlib.Core.Path.{refl}
+use mathlib.Core.Path.{ap, ap₂}
+use mathlib.Core.Bool.{_&&_}
+use Prim.Native.Nat.{_+_}
+use lib.Dec.{leb, eqb}
+use Rattle.meaning.specs.Lists.{between}
 use borrow.Author.Needs.{needs}
 use Rattle.stored.proofs.stack_stored.Statement.{statement}
 use Rattle.stored.proofs.stack_stored.Tie as tie
@@ -35,7 +39,12 @@ returns : tie.Need-returns
 returns c =
     let second = c .before .before in
     let first = second .before .before in
-    rw (second .as-index2 .ensures .0, first .as-index .ensures .0, c .stack-in-range .ensures) refl
+    let start = first .before .before .before in
+    let loaded = start .args .loaded in
+    let most = start .args .most in
+    let count = second .as-index2 .ensures .0 in
+    ap₂ _&&_ (ap₂ _&&_ (c .stack-in-range .ensures) (ap (between 1 64) count))
+    (ap₂ _&&_ (ap (λ k. eqb k loaded) (first .as-index .ensures .0)) (ap (λ k. leb (loaded + k) most) count))
 
 pub stack-stored-spec : {M : Type 1} → statement M
 stack-stored-spec =
