@@ -1,7 +1,9 @@
 //! Cases on the edges of the rules, with the answers of the reference. The same call always gives the same cases.
 
 mod checking;
+mod contacts;
 mod damage;
+mod edges;
 mod late;
 mod limits;
 mod mutate;

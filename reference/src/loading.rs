@@ -23,7 +23,10 @@ pub struct LoadedStack<'a> {
     pub weight: i64,
 }
 
-/// Closed in x and y; `xe` and `ye` are the far sides.
+/// A common edge of so many millimetres holds every stack; a narrower stack, or one behind a narrower, is held by that whole width.
+const ENOUGH_EDGE: i64 = 100;
+
+/// Where a stack stands: from `x` to `xe` along the trailer, from `y` to `ye` across it.
 #[derive(Debug, Clone, Copy, PartialEq, Eq)]
 pub struct Footprint {
     pub x: i64,
@@ -137,8 +140,23 @@ impl Footprint {
         self.x < other.xe && other.x < self.xe && self.y < other.ye && other.y < self.ye
     }
 
-    /// This footprint stands right behind the other; touching at a corner is enough.
+    /// Width across the trailer, as the stack stands.
+    pub fn across(&self) -> i64 {
+        self.ye - self.y
+    }
+
+    /// How long the common edge of two stacks is when one stands right behind the other: 0 at a corner, below 0 with a gap between them.
+    pub fn edge_with(&self, other: &Footprint) -> i64 {
+        self.ye.min(other.ye) - self.y.max(other.y)
+    }
+
+    /// How long it has to be, at least.
+    pub fn needed_edge_with(&self, other: &Footprint) -> i64 {
+        ENOUGH_EDGE.min(self.across()).min(other.across())
+    }
+
+    /// This footprint stands right behind the other, which alone holds it.
     pub fn braced_by(&self, other: &Footprint) -> bool {
-        other.xe == self.x && self.y <= other.ye && other.y <= self.ye
+        other.xe == self.x && self.edge_with(other) >= self.needed_edge_with(other)
     }
 }

@@ -65,7 +65,9 @@ fn told(answer: &Answer) -> String {
         DENSE => format!("stack {first} has weight {second}, too much for its footprint"),
         OUTSIDE => format!("stack {first}, by its {}", SIDES[second as usize - 1]),
         OVERLAP => format!("stacks {first} and {second}"),
-        UNBRACED => format!("stack {first}"),
+        UNBRACED => format!(
+            "stack {first}, held by no edge of 100 mm, or of its whole width, or of the whole width of a stack in front of it"
+        ),
         ORDER => format!("stack {first} must not stand behind stack {second}"),
         OVERLOAD => format!("truck {first}, copy {second}"),
         MIDDLE | REAR => format!("truck {first}, copy {second}, at departure {third}"),

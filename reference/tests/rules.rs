@@ -5,7 +5,7 @@ mod common;
 use common::{accepted, refused};
 use reference::Answer;
 
-/// Items: length, width, weight, code, supplier, supplier dock, plant dock. One truck of 100 by 100.
+/// Items: length, width, weight, code, supplier, supplier dock, plant dock. One truck of 5000 by 5000.
 fn instance(items: &[[u32; 7]], two_docks: u32, axles: &str) -> String {
     let mut text = format!("transport=1\ninventory=0\nextra=0\nitems={}\ntrucks=1\n", items.len());
     for [length, width, weight, code, supplier, supplier_dock, plant_dock] in items {
@@ -13,7 +13,7 @@ fn instance(items: &[[u32; 7]], two_docks: u32, axles: &str) -> String {
             "item={length},{width},10,0,{weight},{code},9,1,0,0,9,1,{plant_dock},{supplier},{supplier_dock},0\n"
         );
     }
-    text += &format!("truck=100,100,100,50000,1,5,50000,{two_docks},100000,1,{axles}\n");
+    text += &format!("truck=5000,5000,100,50000,1,5,50000,{two_docks},100000,1,{axles}\n");
     text + "products=1\nsuppliers=7,3\ndocks=8,2\ndocks=8\nplantdocks=9,4,6\n"
 }
 
@@ -37,15 +37,148 @@ fn two_stacks(first: &str, second: &str) -> String {
     format!("stacks=2\nstack={first}\nload=1\nstack={second}\nload=2\n")
 }
 
+/// Stacks of one item each, numbered from 1 in this order: length, width, copy, x, y, orientation.
+fn placed(stacks: &[[u32; 6]]) -> Answer {
+    let numbered = || (1..).zip(stacks);
+    let items: Vec<[u32; 7]> = numbered()
+        .map(|(number, stack)| with(A, &[(0, stack[0]), (1, stack[1]), (3, number)]))
+        .collect();
+    let mut plan = format!("stacks={}\n", stacks.len());
+    for (number, [_, _, copy, x, y, orientation]) in numbered() {
+        plan += &format!("stack={number},1,{copy},{x},{y},{orientation}\nload={number}\n");
+    }
+    answer(&items, 0, LIGHT, &plan)
+}
+
+/// A stack of that width right behind another, with so long an edge in common: at the low side of the one in front, then at its high
+/// side. Both have to be answered alike.
+fn behind(front: i32, width: i32, edge: i32) -> Answer {
+    let sides = [2000 + edge - width, 2000 + front - edge];
+    let [low, high] = sides.map(|y| {
+        let in_front = [1000, front as u32, 0, 0, 2000, 1];
+        placed(&[in_front, [1000, width as u32, 0, 1000, y as u32, 1]])
+    });
+    assert_eq!(low, high, "{width} behind {front}, edge {edge}");
+    low
+}
+
+const BRACED: Answer = accepted(1000, 1);
+/// The second stack is the one behind.
+const UNBRACED: Answer = refused(24, 2, 0, 0);
+
 #[test]
-fn a_corner_braces_and_a_gap_does_not() {
-    let items = [A, A];
-    let corner = two_stacks("1,1,0,0,0,1", "2,1,0,10,10,1");
-    assert_eq!(answer(&items, 0, LIGHT, &corner), accepted(1000, 1));
-    let gap = two_stacks("1,1,0,0,0,1", "2,1,0,10,11,1");
-    assert_eq!(answer(&items, 0, LIGHT, &gap), refused(24, 2, 0, 0));
-    let other_copy = two_stacks("1,1,0,0,0,1", "2,1,1,10,0,1");
-    assert_eq!(answer(&items, 0, LIGHT, &other_copy), refused(24, 2, 0, 0));
+fn an_edge_of_100_braces() {
+    assert_eq!(behind(1000, 1000, 100), BRACED);
+    assert_eq!(behind(1000, 1000, 99), UNBRACED);
+    assert_eq!(behind(500, 1000, 100), BRACED);
+    assert_eq!(behind(500, 1000, 99), UNBRACED);
+    assert_eq!(behind(1000, 1000, 101), BRACED);
+    assert_eq!(behind(1000, 1000, 1000), BRACED);
+}
+
+#[test]
+fn a_corner_does_not_brace_nor_does_a_gap() {
+    // Loading crews reject stacks held by a corner.
+    assert_eq!(behind(1000, 1000, 0), UNBRACED);
+    assert_eq!(behind(1000, 1000, -1), UNBRACED);
+    assert_eq!(behind(1, 1, 1), BRACED);
+    assert_eq!(behind(1, 1, 0), UNBRACED);
+    assert_eq!(behind(1, 1, -1), UNBRACED);
+    // Along the trailer too.
+    let after = |x: u32| placed(&[[500, 500, 0, 0, 0, 1], [500, 500, 0, x, 0, 1]]);
+    assert_eq!(after(500), BRACED);
+    assert_eq!(after(501), UNBRACED);
+}
+
+#[test]
+fn a_narrow_stack_is_braced_by_its_whole_width() {
+    assert_eq!(behind(1000, 80, 80), BRACED);
+    assert_eq!(behind(1000, 80, 79), UNBRACED);
+    assert_eq!(behind(1000, 99, 99), BRACED);
+    assert_eq!(behind(1000, 99, 98), UNBRACED);
+    assert_eq!(behind(1000, 100, 100), BRACED);
+    assert_eq!(behind(1000, 100, 99), UNBRACED);
+    assert_eq!(behind(1000, 101, 100), BRACED);
+    assert_eq!(behind(1000, 101, 99), UNBRACED);
+}
+
+#[test]
+fn a_narrow_stack_braces_with_its_whole_width() {
+    assert_eq!(behind(80, 1000, 80), BRACED);
+    assert_eq!(behind(80, 1000, 79), UNBRACED);
+    assert_eq!(behind(99, 1000, 99), BRACED);
+    assert_eq!(behind(99, 1000, 98), UNBRACED);
+    assert_eq!(behind(100, 1000, 100), BRACED);
+    assert_eq!(behind(100, 1000, 99), UNBRACED);
+    assert_eq!(behind(101, 1000, 100), BRACED);
+    assert_eq!(behind(101, 1000, 99), UNBRACED);
+}
+
+#[test]
+fn of_two_narrow_stacks_the_narrower_decides() {
+    for (front, width) in [(80, 90), (90, 80), (80, 80)] {
+        assert_eq!(behind(front, width, 80), BRACED);
+        assert_eq!(behind(front, width, 79), UNBRACED);
+    }
+}
+
+#[test]
+fn edges_are_not_added_up() {
+    // A stack 120 wide behind two stacks that meet at 500.
+    let between = |y: u32| {
+        let fronts = [[500, 500, 0, 0, 0, 1], [500, 500, 0, 0, 500, 1]];
+        placed(&[fronts[0], fronts[1], [500, 120, 0, 500, y, 1]])
+    };
+    // 60 and 60.
+    assert_eq!(between(440), refused(24, 3, 0, 0));
+    // 99 and 21, 21 and 99.
+    assert_eq!(between(401), refused(24, 3, 0, 0));
+    assert_eq!(between(479), refused(24, 3, 0, 0));
+    // 100 and 20, 20 and 100.
+    assert_eq!(between(400), BRACED);
+    assert_eq!(between(480), BRACED);
+}
+
+#[test]
+fn a_turned_stack_is_as_wide_as_its_length() {
+    let behind_wide = |[length, width]: [u32; 2], y: u32, orientation: u32| {
+        placed(&[[1000, 1000, 0, 0, 0, 1], [length, width, 0, 1000, y, orientation]])
+    };
+    assert_eq!(behind_wide([1000, 80], 900, 2), BRACED);
+    assert_eq!(behind_wide([1000, 80], 901, 2), UNBRACED);
+    assert_eq!(behind_wide([1000, 80], 920, 1), BRACED);
+    assert_eq!(behind_wide([1000, 80], 921, 1), UNBRACED);
+    // Turned it needs 90, which 89 is short of; else it needs 80.
+    assert_eq!(behind_wide([90, 80], 910, 2), BRACED);
+    assert_eq!(behind_wide([90, 80], 911, 2), UNBRACED);
+    assert_eq!(behind_wide([90, 80], 920, 1), BRACED);
+    assert_eq!(behind_wide([90, 80], 921, 1), UNBRACED);
+    // The same in front.
+    let behind_narrow =
+        |orientation: u32, x: u32, y: u32| placed(&[[90, 80, 0, 0, 0, orientation], [1000, 1000, 0, x, y, 1]]);
+    assert_eq!(behind_narrow(2, 80, 0), BRACED);
+    assert_eq!(behind_narrow(2, 80, 1), UNBRACED);
+    assert_eq!(behind_narrow(1, 90, 0), BRACED);
+    assert_eq!(behind_narrow(1, 90, 1), UNBRACED);
+}
+
+#[test]
+fn every_stack_of_a_chain_needs_its_own_edge() {
+    // The third has its whole width behind the second, which itself has a corner, an edge of 99 or one of 100.
+    let chain = |y: u32| {
+        let front = [500, 500, 0, 0, 0, 1];
+        placed(&[front, [500, 500, 0, 500, y, 1], [500, 500, 0, 1000, y, 1]])
+    };
+    assert_eq!(chain(500), UNBRACED);
+    assert_eq!(chain(401), UNBRACED);
+    assert_eq!(chain(400), BRACED);
+}
+
+#[test]
+fn a_stack_of_another_copy_does_not_brace() {
+    let second = |copy: u32| placed(&[[500, 500, 0, 0, 0, 1], [500, 500, copy, 500, 0, 1]]);
+    assert_eq!(second(1), UNBRACED);
+    assert_eq!(second(0), BRACED);
 }
 
 #[test]

@@ -32,7 +32,7 @@ const REFUSALS: &str = "\
 1 2 0 | 22 outside: stack 1, by its width
 1 3 0 | 22 outside: stack 1, by its height
 2 5 0 | 23 overlap: stacks 2 and 5
-1 0 0 | 24 unbraced: stack 1
+1 0 0 | 24 unbraced: stack 1, held by no edge of 100 mm, or of its whole width, or of the whole width of a stack in front of it
 5 2 0 | 25 order: stack 5 must not stand behind stack 2
 16 99 0 | 26 overload: truck 16, copy 99
 1 0 8 | 27 middle axle: truck 1, copy 0, at departure 8

@@ -15,6 +15,7 @@ use Rattle.meaning.specs.BadLine.{inInstance, inPlan, handedBack}
 use Rattle.meaning.specs.Print.{commaJoined}
 use Rattle.meaning.specs.Example.{lines, fileOf, AsExpected, exampleInstance, examplePlan, tenEdits, readH}
 use Rattle.meaning.specs.ExampleRules.{unevenInstance, unevenPlan, ruleCases, rulePairs, clashCases}
+use Rattle.meaning.specs.ExampleContacts.{contactInstance, contactPlan, contactCases}
 use Rattle.meaning.specs.Examples.{readingCases, examplePart, exampleBytes, gapPart, Run, wordsThere, unevenWords, close, unevenTable, Change, answeredChange, changes}
 
 -- ---- the ten edits, and H
@@ -26,7 +27,7 @@ pub H-example : readH (readFiles small (fileOf exampleInstance) (fileOf exampleP
 unfolding readFiles H
 H-example = refl
 
--- ---- the rules, one by one and two at once; reading
+-- ---- the rules, one by one and two at once; contacts; reading
 pub rule-cases : AsExpected unevenInstance unevenPlan ruleCases
 unfolding answer commaParts commaJoined
 rule-cases = refl
@@ -34,6 +35,10 @@ rule-cases = refl
 pub rule-pairs : AsExpected unevenInstance unevenPlan rulePairs
 unfolding answer commaParts commaJoined
 rule-pairs = refl
+
+pub contact-cases : AsExpected contactInstance contactPlan contactCases
+unfolding answer commaParts commaJoined
+contact-cases = refl
 
 pub clash-cases : AsExpected unevenInstance unevenPlan clashCases
 unfolding answer commaParts commaJoined

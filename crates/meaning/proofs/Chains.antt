@@ -3,44 +3,67 @@ use mathlib.Core.Path.{_≡_, ap}
 use mathlib.Core.Logic.{_⊎_, inl, inr, ⊎-elim, _↔_}
 use mathlib.Core.Bool.{Bool, true, _&&_}
 use mathlib.Core.List.{List, [], _∷_}
-use Prim.Native.Nat.{ℕ, zero, suc, _≤_, max}
+use Prim.Native.Nat.{ℕ, zero, suc, _+_, _≤_, min, max}
 use native.Mathlib.Nat.{le-refl}
+use native.Mathlib.Decide.{decLe}
 use native.Mathlib.Omega.{arith}
 use borrow.Author.Tests.{leb-true, le-leb, eqb-true, eq-eqb}
 use lib.Dec.{leb, eqb}
 use Rattle.meaning.specs.Lists.{any, In}
 use Rattle.meaning.specs.Model.{Instance, Stack, number, x, y}
-use Rattle.meaning.specs.Measures.{another, xe, ye}
-use Rattle.meaning.specs.Rules.{stackPlaces, inContact, bracedBy, braced, noAmount}
-use Rattle.meaning.specs.Feasible.{SameTruck, Contact, Chain}
+use Rattle.meaning.specs.Measures.{another, across, xe, ye}
+use Rattle.meaning.specs.Rules.{stackPlaces, leastEdge, inContact, bracedBy, braced, noAmount}
+use Rattle.meaning.specs.Feasible.{SameTruck, LongEnough, hundred, wholeFirst, wholeNext, Contact, Chain}
 use Rattle.meaning.proofs.Tests.{and-reads, or-reads}
 use Rattle.meaning.proofs.Lists.{any-reads}
 use Rattle.meaning.proofs.RuleKinds.{another-reads, stacks-kept}
 use Rattle.meaning.proofs.WellFormed.{WellFormed}
 use Rattle.meaning.proofs.Extents.{Ends, formed-ends}
 
--- the rule's test is a contact
-contact-reads : (i : Instance) (s r : Stack) → Ends i s → Ends i r → (inContact i s r ≡ true) ↔ Contact i s r
-contact-reads i s r a b = (
-  (λ e.
-      let h = and-reads (eqb (xe i r) (x s) && leb (y s) (ye i r)) (leb (y r) (ye i s)) .0 e in
-      let k = and-reads (eqb (xe i r) (x s)) (leb (y s) (ye i r)) .0 (h .0) in
-      let e₁ : xe i r ≡ x s = eqb-true _ _ (k .0) in
-      let h₁ : y s ≤ ye i r = leb-true _ _ (k .1) in
-      let h₂ : y r ≤ ye i s = leb-true _ _ (h .1) in
-      record {
-        meets = omega (arith, b .atX, e₁);
-        v = max (y s) (y r);
-        ofFirst = (omega arith, omega (arith, a .atY, a .wide));
-        ofNext = (omega arith, omega (arith, b .atY, b .wide));
-      }),
-  (λ c.
-      and-reads (eqb (xe i r) (x s) && leb (y s) (ye i r)) (leb (y r) (ye i s)) .1 (
-        and-reads (eqb (xe i r) (x s)) (leb (y s) (ye i r)) .1
-            (eq-eqb (xe i r) (x s) (omega (arith, b .atX, c .meets)), le-leb (y s) (ye i r) (omega (arith, b .atY, c .ofFirst .0, c .ofNext .1))),
-        le-leb (y r) (ye i s) (omega (arith, a .atY, c .ofNext .0, c .ofFirst .1)),
-      )),
-)
+-- ---- the rule's test and the contact
+module _ (i : Instance) (s r : Stack) (a : Ends i s) (b : Ends i r) where
+  -- an edge is long enough exactly when it is as long as the rule asks
+  long-reads : (from until : ℕ) → (from + leastEdge i s r ≤ until) ↔ LongEnough i s r from until
+  long-reads from until = ((λ h. go h (decLe 100 (min (across i s) (across i r))) (decLe (across i s) (across i r))), back)
+    where
+      go : from + leastEdge i s r ≤ until → Dec (100 ≤ min (across i s) (across i r)) → Dec (across i s ≤ across i r) → LongEnough i s r from until
+      go h (yes q) d = hundred (omega (arith, h, q))
+      go h (no q) (yes d) = wholeFirst (omega (arith, h, q, d, a .atY))
+      go h (no q) (no d) = wholeNext (omega (arith, h, q, d, b .atY))
+
+      back : LongEnough i s r from until → from + leastEdge i s r ≤ until
+      back (hundred h) = omega (arith, h)
+      back (wholeFirst h) = omega (arith, h, a .atY)
+      back (wholeNext h) = omega (arith, h, b .atY)
+
+  -- the edge is the common part of both y ranges, or a part of it
+  contact-reads : (inContact i s r ≡ true) ↔ Contact i s r
+  contact-reads = (
+    (λ e.
+        let h = and-reads ends long .0 e in
+        let e₁ : xe i r ≡ x s = eqb-true _ _ (h .0) in
+        record {
+          meets = omega (arith, b .atX, e₁);
+          from = max (y s) (y r);
+          until = min (ye i s) (ye i r);
+          onFirst = (omega arith, omega (arith, a .atY));
+          onNext = (omega arith, omega (arith, b .atY));
+          long = long-reads (max (y s) (y r)) (min (ye i s) (ye i r)) .0 (leb-true _ _ (h .1));
+        }),
+    (λ c.
+        let h = long-reads (c .from) (c .until) .1 (c .long) in
+        and-reads ends long .1 (
+          eq-eqb (xe i r) (x s) (omega (arith, b .atX, c .meets)),
+          le-leb (max (y s) (y r) + leastEdge i s r) (min (ye i s) (ye i r))
+              (omega (arith, h, a .atY, b .atY, c .onFirst .0, c .onFirst .1, c .onNext .0, c .onNext .1)),
+        )),
+  )
+    where
+      ends : Bool
+      ends = eqb (xe i r) (x s)
+
+      long : Bool
+      long = leb (max (y s) (y r) + leastEdge i s r) (min (ye i s) (ye i r))
 
 chain-in : (i : Instance) (p : List Stack) (s : Stack) (rest : List Stack) → Chain i p (s ∷ rest) → In s p
 chain-in i p s [] h = h .0

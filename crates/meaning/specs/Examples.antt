@@ -140,7 +140,7 @@ unevenWords =
     ∷ record { from = 4190; words = 38 ∷ 32 ∷ 0 ∷ [] }
     ∷ record { from = 4245; words = 0 ∷ 2 ∷ 95 ∷ 97 ∷ 0 ∷ [] }
     -- truck 2: its fields; product count and products; supplier count and suppliers; dock counts; docks of each supplier; plant dock count and plant docks
-    ∷ record { from = 4272; words = 3450 ∷ 2080 ∷ 1695 ∷ 2060 ∷ 83 ∷ 20 ∷ 570 ∷ 1 ∷ 990 ∷ 170 ∷ 5240 ∷ 3260 ∷ 930 ∷ 2530 ∷ 3060 ∷ 1870 ∷ 1390 ∷ 620 ∷ 1750 ∷ 5400 ∷ [] }
+    ∷ record { from = 4272; words = 3450 ∷ 1980 ∷ 1695 ∷ 2060 ∷ 83 ∷ 20 ∷ 570 ∷ 1 ∷ 990 ∷ 170 ∷ 5240 ∷ 3260 ∷ 930 ∷ 2530 ∷ 3060 ∷ 1870 ∷ 1390 ∷ 620 ∷ 1750 ∷ 5400 ∷ [] }
     ∷ record { from = 4292; words = 7 ∷ 213 ∷ 215 ∷ 211 ∷ 217 ∷ 212 ∷ 216 ∷ 218 ∷ 0 ∷ [] }
     ∷ record { from = 4324; words = 0 ∷ 4 ∷ 54 ∷ 51 ∷ 57 ∷ 52 ∷ 0 ∷ [] }
     ∷ record { from = 4334; words = 2 ∷ 1 ∷ 3 ∷ 2 ∷ 0 ∷ [] }
@@ -152,7 +152,7 @@ unevenWords =
     -- the word behind the trucks; each stack with its first load index and load count; the word behind them
     ∷ record { from = 4432; words = 0 ∷ [] }
     ∷ record { from = 6672; words = 31 ∷ 2 ∷ 5 ∷ 0 ∷ 30 ∷ 1 ∷ 0 ∷ 3 ∷ [] }
-    ∷ record { from = 6680; words = 12 ∷ 2 ∷ 5 ∷ 1250 ∷ 830 ∷ 2 ∷ 3 ∷ 2 ∷ [] }
+    ∷ record { from = 6680; words = 12 ∷ 2 ∷ 5 ∷ 1250 ∷ 730 ∷ 2 ∷ 3 ∷ 2 ∷ [] }
     ∷ record { from = 6688; words = 40 ∷ 2 ∷ 5 ∷ 2050 ∷ 70 ∷ 1 ∷ 5 ∷ 1 ∷ [] }
     ∷ record { from = 6696; words = 25 ∷ 2 ∷ 0 ∷ 0 ∷ 200 ∷ 2 ∷ 6 ∷ 1 ∷ [] }
     ∷ record { from = 6704; words = 17 ∷ 1 ∷ 0 ∷ 0 ∷ 60 ∷ 1 ∷ 7 ∷ 1 ∷ [] }

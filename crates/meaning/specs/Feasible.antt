@@ -177,9 +177,13 @@ turnedBy s a b = getD (a ∷ b ∷ []) (orientation s - 1) 0
 abbrev pub endX : Instance → Stack → ℕ
 endX i s = x s + turnedBy s (IL (bottomItem i s)) (IW (bottomItem i s))
 
+-- how wide it is across the trailer, as it stands
+abbrev pub widthAcross : Instance → Stack → ℕ
+widthAcross i s = turnedBy s (IW (bottomItem i s)) (IL (bottomItem i s))
+
 -- where it ends across the trailer
 abbrev pub endY : Instance → Stack → ℕ
-endY i s = y s + turnedBy s (IW (bottomItem i s)) (IL (bottomItem i s))
+endY i s = y s + widthAcross i s
 
 -- "a square is a pair u, v, both from 0. It lies under a stack if x ≤ u < xe and y ≤ v < ye"
 pub record Under (i : Instance) (s : Stack) (u v : ℕ) : Type 0 where
@@ -194,12 +198,21 @@ pub record OnFloor (t : Truck) (u v : ℕ) : Type 0 where
   pub inWidth : v < TW t
 
 -- ---- part 4, chain
--- contact as in P3: r ends at the x of s, and a point v lies in both closed y ranges
+-- F-2, the length of an edge between s and r: "at least 100 mm, or the narrower of the two stacks' widths across the trailer if that is below 100"
+pub data LongEnough (i : Instance) (s r : Stack) (from until : ℕ) : Type 0 where
+  hundred : from + 100 ≤ until → LongEnough i s r from until
+  -- the whole width of a stack: an edge that lies on both is at most as long as the narrower is wide
+  wholeFirst : from + widthAcross i s ≤ until → LongEnough i s r from until
+  wholeNext : from + widthAcross i r ≤ until → LongEnough i s r from until
+
+-- F-2, "a contact needs a common edge": r ends at the x of s, and an edge from one y to another, which is long enough, lies on both
 pub record Contact (i : Instance) (s r : Stack) : Type 0 where
   pub meets : endX i r ≡ x s
-  pub v : ℕ
-  pub ofFirst : (y s ≤ v) × (v ≤ endY i s)
-  pub ofNext : (y r ≤ v) × (v ≤ endY i r)
+  pub from : ℕ
+  pub until : ℕ
+  pub onFirst : (y s ≤ from) × (until ≤ endY i s)
+  pub onNext : (y r ≤ from) × (until ≤ endY i r)
+  pub long : LongEnough i s r from until
 
 -- "A chain is a list of stacks of one used truck. Each next one has its xe at the x of the one before and is in contact with it as in P3; the last has x = 0"
 abbrev pub Chain : Instance → List Stack → List Stack → Type 0

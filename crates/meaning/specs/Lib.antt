@@ -21,4 +21,5 @@ pub mod Meets
 pub mod Claims
 pub mod Example
 pub mod ExampleRules
+pub mod ExampleContacts
 pub mod Examples

@@ -2,7 +2,7 @@
 -- where a stack stands in its file.
 use mathlib.Core.Bool.{Bool, true, false, cond, not, _&&_, _||_}
 use mathlib.Core.List.{List, [], _∷_, _++_, map, flatMap}
-use Prim.Native.Nat.{ℕ, suc, _*_}
+use Prim.Native.Nat.{ℕ, suc, _+_, _*_, min, max}
 use lib.Dec.{leb, ltb, eqb}
 use lib.IntN.{pos, _+ℤ_, _-ℤ_, _*ℤ_}
 use lib.Signed.{leZ}
@@ -12,7 +12,7 @@ use Rattle.meaning.specs.Lists.{all, any, filter, onlyIf, upFrom, listed
 use Rattle.meaning.specs.Places.{place}
 use Rattle.meaning.specs.Model.{Instance, Truck, Stack, Item, item, truckNumbered, truckOf, number, truck, copy, x, y, orientation}
 use Rattle.meaning.specs.Model.{IS, ISM, IR, IO, IDE, IDL, IP, IU, IK, TL, TW, TMm, TP, TDA, TMM, TF, TEM, CM, CJfm, CJfc, CJfh, EM, EJhr, EMmr, EMmm}
-use Rattle.meaning.specs.Measures.{bottom, above, sl, sw, xe, ye, height, heightLimit, weight, sm, supplierOrder, supplierDockOrder, plantDockOrder, plantDocksOf}
+use Rattle.meaning.specs.Measures.{bottom, above, sl, sw, across, xe, ye, height, heightLimit, weight, sm, supplierOrder, supplierDockOrder, plantDockOrder, plantDocksOf}
 use Rattle.meaning.specs.Measures.{UsedTruck, another, usedTrucks, stacksOn, weightOn, departures, stacksAtDeparture, H}
 
 -- ---- the places where a test fails
@@ -163,9 +163,13 @@ exceededSide i s = cond (not (withinLength i s)) 1 (cond (not (withinWidth i s))
 abbrev pub disjoint : Instance → Stack → Stack → Bool
 disjoint i s r = leb (xe i s) (x r) || leb (xe i r) (x s) || leb (ye i s) (y r) || leb (ye i r) (y s)
 
--- P3: s is in contact with r, which ends at the x of s; their closed y ranges share a point: "A corner is enough"
+-- F-2, how long the common edge of a contact is: "at least 100 mm, or the narrower of the two stacks' widths across the trailer if that is below 100"
+abbrev pub leastEdge : Instance → Stack → Stack → ℕ
+leastEdge i s r = min 100 (min (across i s) (across i r))
+
+-- P3 by F-2, "a contact needs a common edge": r ends at the x of s, and the common part of their y ranges, from the later y to the earlier ye, is long enough
 abbrev pub inContact : Instance → Stack → Stack → Bool
-inContact i s r = eqb (xe i r) (x s) && leb (y s) (ye i r) && leb (y r) (ye i s)
+inContact i s r = eqb (xe i r) (x s) && leb (max (y s) (y r) + leastEdge i s r) (min (ye i s) (ye i r))
 
 -- s is braced by r: another stack on its used truck, in contact with it
 abbrev pub bracedBy : Instance → Stack → Stack → Bool

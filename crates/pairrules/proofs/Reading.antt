@@ -1,12 +1,14 @@
 -- The tests on rows that hold the stacks of a filled table: each is the rule's test on the stacks at these places.
 use mathlib.Core.Path.{_≡_, ap, ap₂, _∙_}
+use mathlib.Core.Bool.{_&&_}
 use mathlib.Core.List.{List}
-use Prim.Native.Nat.{ℕ, _<_}
+use Prim.Native.Nat.{ℕ, _+_, _-_, _<_, min, max}
 use native.Mathlib.Omega.{arith}
+use lib.Dec.{leb, eqb}
 use lib.ListN.{length, getD}
 use Rattle.meaning.specs.declared.Limits.{Limits}
-use Rattle.meaning.specs.Model.{Instance, Stack, IS}
-use Rattle.meaning.specs.Measures.{bottom}
+use Rattle.meaning.specs.Model.{Instance, Stack, x, y, IS}
+use Rattle.meaning.specs.Measures.{bottom, across, xe, ye}
 use Rattle.meaning.specs.Rules.{plantDockCount, disjoint, inContact, inLoadingOrder}
 use Rattle.meaning.specs.Table.{instanceIn, stacksIn}
 use Rattle.table.specs.Filled.{stackAt}
@@ -16,6 +18,10 @@ use Rattle.manifest.proofs.Order.{order-within}
 use Rattle.manifest.proofs.Reading.{word-is, footprint-is, rank-is}
 use Rattle.pairrules.specs.PairRules.{disjointFootprints, footprintsInContact, ranksBefore, disjointAt, inContactAt, inOrderAt}
 use Rattle.pairrules.proofs.Ranks.{FewOrders, ranks-before}
+
+-- the ground of a stack is as wide as the stack stands across the trailer
+width-is : (i : Instance) (s : Stack) → ye i s - y s ≡ across i s
+width-is i s = omega arith
 
 module _ {m : Limits} {t rows : List ℕ} (h : HoldsRows m t rows) where
   abbrev i : Instance
@@ -39,7 +45,11 @@ module _ {m : Limits} {t rows : List ℕ} (h : HoldsRows m t rows) where
     disjoint-is = ap₂ disjointFootprints (footprint-is h a la) (footprint-is h b lb)
 
     pub contact-is : inContactAt rows a b ≡ inContact i (manifestAt p a) (manifestAt p b)
-    contact-is = ap₂ footprintsInContact (footprint-is h a la) (footprint-is h b lb)
+    contact-is =
+        let s = manifestAt p a in
+        let r = manifestAt p b in
+        ap₂ footprintsInContact (footprint-is h a la) (footprint-is h b lb)
+        ∙ ap₂ (λ u v. eqb (xe i r) (x s) && leb (max (y s) (y r) + min 100 (min u v)) (min (ye i s) (ye i r))) (width-is i s) (width-is i r)
 
     pub order-is : inOrderAt rows a b ≡ inLoadingOrder i (manifestAt p a) (manifestAt p b)
     order-is =

@@ -3,7 +3,7 @@ use mathlib.Core.Path.{_≡_}
 use mathlib.Core.Logic.{_⊎_}
 use mathlib.Core.Bool.{Bool, not, _&&_, _||_}
 use mathlib.Core.List.{List}
-use Prim.Native.Nat.{ℕ, _+_, _-_, _≤_, _<_}
+use Prim.Native.Nat.{ℕ, _+_, _-_, _≤_, _<_, min, max}
 use lib.Dec.{leb, ltb, eqb}
 use lib.ListN.{length, getD, take}
 use Rattle.meaning.specs.Lists.{upFrom}
@@ -19,9 +19,13 @@ use Rattle.rules.specs.declared.PairRule.the-variants.{SecondPair, Overlap, Ord
 abbrev pub disjointFootprints : Footprint → Footprint → Bool
 disjointFootprints a b = leb (a .xe) (b .x) || leb (b .xe) (a .x) || leb (a .ye) (b .y) || leb (b .ye) (a .y)
 
--- P3 on the ground that two stacks take: b ends at the x of a, and their closed y ranges share a point
+-- F-2 on the ground that two stacks take: 100 mm, or the narrower of the two where that is below 100
+abbrev pub leastFootprintEdge : Footprint → Footprint → ℕ
+leastFootprintEdge a b = min 100 (min (a .ye - a .y) (b .ye - b .y))
+
+-- P3 on the ground that two stacks take: b ends at the x of a, and the common part of their y ranges is long enough
 abbrev pub footprintsInContact : Footprint → Footprint → Bool
-footprintsInContact a b = eqb (b .xe) (a .x) && leb (a .y) (b .ye) && leb (b .y) (a .ye)
+footprintsInContact a b = eqb (b .xe) (a .x) && leb (max (a .y) (b .y) + leastFootprintEdge a b) (min (a .ye) (b .ye))
 
 -- P4 on the ranks of two stacks: every plant dock order is at most another's where the highest is at most the lowest
 abbrev pub ranksBefore : Rank → Rank → Bool

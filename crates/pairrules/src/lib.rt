@@ -4,14 +4,14 @@ ghost use mathlib.Core.Path.{_≡_};
 ghost use mathlib.Core.Logic.{_↔_};
 ghost use mathlib.Core.Bool.{true};
 ghost use mathlib.Core.List.{[]};
-ghost use Prim.Native.Nat.{_+_, _-_, _*_, _≤_, _<_};
+ghost use Prim.Native.Nat.{_+_, _-_, _*_, _≤_, _<_, min, max};
 ghost use lib.ListN.{length};
 ghost use Rattle.meaning.specs.Table.{instanceIn, stacksIn};
 ghost use Rattle.meaning.specs.Rules.{pairPlaces, singlePair};
 ghost use Rattle.search.specs.Lowest.{lowestIn};
 ghost use Rattle.rules.specs.LoadingRules.{pairTest};
 ghost use Rattle.manifest.specs.Manifest.{manifestAt, block, HoldsRows, OneTruck};
-ghost use Rattle.pairrules.specs.PairRules.{disjointFootprints, footprintsInContact, ranksBefore, inOrderAt};
+ghost use Rattle.pairrules.specs.PairRules.{disjointFootprints, leastFootprintEdge, footprintsInContact, ranksBefore, inOrderAt};
 ghost use Rattle.pairrules.specs.PairRules.{Each, SortedRows, wholePlan, BlockOf, KnownBlock, firstPartner};
 use manifest::Block;
 use manifest::footprint_at;
@@ -58,11 +58,47 @@ pub fn disjoint(a: Footprint, b: Footprint) -> bool
     (((a.xe <= b.x) | (b.xe <= a.x)) | (a.ye <= b.y)) | (b.ye <= a.y)
 }
 
-// 24 unbraced, P3: whether the second stack ends where the first begins, in contact with it; a corner is enough.
+// The lower of two numbers.
+fn lower(a: u32, b: u32) -> u32
+    ensures { λ r. ⌜ r ≡ min a b ⌝ }
+{
+    if a < b {
+        return a;
+    }
+    b
+}
+
+// The higher of two numbers.
+fn higher(a: u32, b: u32) -> u32
+    ensures { λ r. ⌜ r ≡ max a b ⌝ }
+{
+    if b < a {
+        return a;
+    }
+    b
+}
+
+// An edge of so many millimetres is long enough between any two stacks.
+const LONG_EDGE: u32 = 100;
+
+// How long the common edge of two stacks in contact is at least: as long as the narrower is wide across the trailer where that is below 100.
+fn least_edge(a: Footprint, b: Footprint) -> u32
+    requires { ⌜ (a .y ≤ a .ye) × (b .y ≤ b .ye) ⌝ }
+    ensures { λ r. ⌜ r ≡ leastFootprintEdge a b ⌝ }
+{
+    lower(LONG_EDGE, lower(a.ye - a.y, b.ye - b.y))
+}
+
+// 24 unbraced, P3: whether the second stack ends where the first begins, in contact with it: the common part of their y ranges is an edge that
+// is long enough. Few stacks end there, so this is asked first.
 pub fn in_contact(a: Footprint, b: Footprint) -> bool
+    requires { ⌜ (a .y ≤ a .ye) × (b .y ≤ b .ye) ⌝ }
     ensures { λ r. ⌜ r ≡ footprintsInContact a b ⌝ }
 {
-    ((b.xe == a.x) & (a.y <= b.ye)) & (b.y <= a.ye)
+    if b.xe != a.x {
+        return false;
+    }
+    higher(a.y, b.y) + least_edge(a, b) <= lower(a.ye, b.ye)
 }
 
 // 25 order, P4: the three cases in which the stack of the first rank must have x no greater than the other.

@@ -18,7 +18,7 @@ use Rattle.meaning.specs.Table.{instanceIn, stacksIn}
 use Rattle.meaning.proofs.Tests.{same-test, and-reads, iff-trans}
 use Rattle.meaning.proofs.Lists.{any-reads, in-flatMap, in-upFrom}
 use Rattle.meaning.proofs.WellFormed.{meets-formed}
-use Rattle.meaning.proofs.Extents.{formed-ends}
+use Rattle.meaning.proofs.Extents.{Ends, formed-ends}
 use Rattle.search.specs.Lowest.{lowestIn}
 use Rattle.search.proofs.Lowest.{lowest-members}
 use Rattle.manifest.specs.declared.Block.{Block}
@@ -53,12 +53,15 @@ module _ {m : Limits} {t rows : List ℕ} {on : Block} (h : HoldsRows m t rows) 
   within : (k : ℕ) → k < on .end → k < length p
   within k up = omega (arith, one .within)
 
-  -- each stack has an extent
+  -- each stack has an extent along the trailer and across it
+  ends : (k : ℕ) → k < on .end → Ends i (manifestAt p k)
+  ends k up = formed-ends i (manifestAt p k) (meets-formed m i p (h .filled .range) .stacks (manifestAt p k) (stack-in h k (within k up)))
+
   extent : (k : ℕ) → k < on .end → rowWord rows k 4 < rowWord rows k 5
-  extent k up =
-      let there = stack-in h k (within k up) in
-      let long = formed-ends i (manifestAt p k) (meets-formed m i p (h .filled .range) .stacks (manifestAt p k) there) .long in
-      rw (word-is h k (within k up) 4 (omega arith), word-is h k (within k up) 5 (omega arith)) long
+  extent k up = rw (word-is h k (within k up) 4 (omega arith), word-is h k (within k up) 5 (omega arith)) (ends k up .long)
+
+  width : (k : ℕ) → k < on .end → rowWord rows k 6 < rowWord rows k 7
+  width k up = rw (word-is h k (within k up) 6 (omega arith), word-is h k (within k up) 7 (omega arith)) (ends k up .wide)
 
   pub truck-rows : TruckRows rows on
   truck-rows =
@@ -67,6 +70,7 @@ module _ {m : Limits} {t rows : List ℕ} {on : Block} (h : HoldsRows m t rows) 
         room = omega (arith, one .within, h .room);
         few = omega (arith, one .within, h .filled .range .stackCount, h .filled .bounded .words);
         long = λ k from up. extent k up;
+        wide = λ k from up. width k up;
       }
 
   -- what braces a stack is another one, since a stack does not end where it begins
@@ -85,7 +89,7 @@ module _ {m : Limits} {t rows : List ℕ} {on : Block} (h : HoldsRows m t rows) 
             λ q.
                 let same = one-stack h s r (stack-in h k lk) (stack-in h j lj) q in
                 let begins : rowWord rows k 4 ≡ rowWord rows j 4 = word-is h k lk 4 (omega arith) ∙ ap x same ∙ sym (word-is h j lj 4 (omega arith)) in
-                let ends = eqb-true (rowWord rows j 5) (rowWord rows k 4) (and-reads _ _ .0 (and-reads _ _ .0 e .0) .0) in
+                let ends = eqb-true (rowWord rows j 5) (rowWord rows k 4) (and-reads _ _ .0 e .0) in
                 omega (arith, begins, ends, extent j (b .1)),
           ),
           sym contact ∙ e,

@@ -29,6 +29,13 @@ module _ {rows : List ℕ} {on : Block} {along : List ℕ} (h : RowsByX rows on 
   pub nth-listed : In (placeAt on along k) (upFrom (on .start) (on .end - on .start))
   nth-listed = in-upFrom (on .start) (on .end - on .start) (placeAt on along k) .1 (omega (arith, place-within (h .sorted) k inside))
 
+  -- the ground of the k-th stack has an extent across the trailer
+  nth-wide : {ground : Footprint} → ground ≡ footprintAt rows (placeAt on along k) → ground .y ≤ ground .ye
+  nth-wide e =
+      let place = place-within (h .sorted) k inside in
+      let wide = h .truck .wide (placeAt on along k) (place .0) (place .1) in
+      rw e (omega (arith, wide))
+
 -- ---- 23: the stacks behind the k-th
 -- it lies apart from those before the j-th
 pub record ClearUpto (rows : List ℕ) (on : Block) (along : List ℕ) (k : ℕ) (ground : Footprint) (j : ℕ) : Type 0 where
@@ -102,6 +109,9 @@ module _ {rows : List ℕ} {on : Block} {along : List ℕ} {k : ℕ} {ground : F
   abbrev front : Bool
   front = eqb (rowWord rows (placeAt on along k) 4) 0
 
+  pub both-wide : 0 < j → {other : Footprint} → other ≡ footprintAt rows (placeAt on along (j - 1)) → (ground .y ≤ ground .ye) × (other .y ≤ other .ye)
+  both-wide some eo = (nth-wide (h .held) k (h .inside) (h .is), nth-wide (h .held) (j - 1) (omega (arith, h .upto, h .inside)) eo)
+
   module _ (some : 0 < j) {other : Footprint} (eo : other ≡ footprintAt rows (placeAt on along (j - 1)))
       {touched : Bool} (asks : touched ≡ footprintsInContact ground other) where
     asked : touched ≡ touches (placeAt on along (j - 1))
@@ -128,7 +138,7 @@ module _ {rows : List ℕ} {on : Block} {along : List ℕ} {k : ℕ} {ground : F
   none-behind : (l : ℕ) → k ≤ l → l < on .end - on .start → touches (placeAt on along l) ≡ true → ⊥
   none-behind l from less e =
       let place = place-within (h .held .sorted) l less in
-      let ends = eqb-true (rowWord rows (placeAt on along l) 5) (rowWord rows (placeAt on along k) 4) (and-reads _ _ .0 (and-reads _ _ .0 e .0) .0) in
+      let ends = eqb-true (rowWord rows (placeAt on along l) 5) (rowWord rows (placeAt on along k) 4) (and-reads _ _ .0 e .0) in
       omega (arith, ends, h .held .truck .long (placeAt on along l) (place .0) (place .1), word-rising (h .held .sorted) k l from less)
 
   pub not-braced : j ≤ 0 → false ≡ bracedAt rows on (placeAt on along k)

@@ -17,12 +17,13 @@ use Rattle.manifest.specs.Manifest.{rowWord}
 use Rattle.pairrules.specs.PairRules.{disjointAt, inContactAt, inOrderAt, EachTwo, SortedRows}
 use Rattle.placement.specs.declared.Placement.{Placement}
 
--- the rows of a used truck, whose stacks have an extent along the trailer
+-- the rows of a used truck, whose stacks have an extent along the trailer and across it
 pub record TruckRows (rows : List ℕ) (on : Block) : Type 0 where
   pub some : on .start ≤ on .end
   pub room : 16 * on .end ≤ length rows
   pub few : on .end ≤ 16777216
   pub long : (k : ℕ) → on .start ≤ k → k < on .end → rowWord rows k 4 < rowWord rows k 5
+  pub wide : (k : ℕ) → on .start ≤ k → k < on .end → rowWord rows k 6 < rowWord rows k 7
 
 -- and their places along the trailer, by ascending x
 pub record RowsByX (rows : List ℕ) (on : Block) (along : List ℕ) : Type 0 where

@@ -97,7 +97,10 @@ fn print_loading_rule(number: u32, places: [u32; 3]) {
     match number {
         22 => print_outside(places),
         23 => print_filled(b"overlap: stacks # and #", places),
-        24 => print_filled(b"unbraced: stack #", places),
+        24 => print_filled(
+            b"unbraced: stack #, held by no edge of 100 mm, or of its whole width, or of the whole width of a stack in front of it",
+            places,
+        ),
         25 => print_filled(b"order: stack # must not stand behind stack #", places),
         26 => print_filled(b"overload: truck #, copy #", places),
         27 => print_filled(b"middle axle: truck #, copy #, at departure #", places),

@@ -1,5 +1,6 @@
 //! A fixed list of cases through the whole check: some aimed at each verdict, two neighbouring rules broken together, stacks with one and
-//! two plant docks, others taken as they come, overlong files, plans of full size, and plans whose stacks are given in several orders.
+//! two plant docks, edges just long enough and just too short, others taken as they come, overlong files, plans of full size, and plans
+//! whose stacks are given in several orders.
 //! Every draw comes from one seed, so the files are always the same.
 
 use super::mutate::{mixed_supplier_alone, Change, CHANGES};
@@ -11,7 +12,7 @@ use super::recipe::{
     aimed, at_range_end, changed_once, damaged_twice, drawn, in_other_order, nudged, unaimed, wish_for,
 };
 use super::recipe::{LARGE, MEDIUM, SMALL, TARGETS};
-use super::{plant_docks, sized, Made};
+use super::{contacts, plant_docks, sized, Made};
 use crate::MOST_BYTES;
 
 const SEED: u64 = 2022;
@@ -52,6 +53,7 @@ pub fn all() -> Vec<Made> {
     add_changes(&mut cases);
     add_neighbours(&mut cases);
     cases.extend(plant_docks::all());
+    cases.extend(contacts::all());
     add_medium(&mut cases);
     add_unaimed(&mut cases);
     add_overlong(&mut cases);

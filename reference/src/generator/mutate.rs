@@ -1,8 +1,8 @@
 //! Small changes of an accepted case, each aimed at one verdict.
 
-use super::limits;
 use super::packed::Case;
 use super::random::Random;
+use super::{edges, limits};
 use crate::model::{Item, Truck};
 
 /// Changes the case; false when there was nothing to change.
@@ -10,6 +10,7 @@ pub type Change = fn(&mut Case, &mut Random) -> bool;
 
 /// The verdict aimed at, a label and the change.
 pub const CHANGES: &[(u32, &str, Change)] = &[
+    (0, "edge-enough", edges::enough),
     (6, "code-side", code_side),
     (6, "code-taken", code_taken),
     (9, "load-dropped", load_dropped),
@@ -52,6 +53,9 @@ pub const CHANGES: &[(u32, &str, Change)] = &[
     (24, "loose-shift", loose_shift),
     (24, "loose-aside", loose_aside),
     (24, "loose-truck", loose_truck),
+    (24, "edge-short", edges::short),
+    (24, "edge-corner", edges::corner),
+    (24, "edge-shared", edges::shared),
     (25, "order-suppliers", order_suppliers),
     (25, "order-docks", order_docks),
     (25, "order-plant-docks", order_plant_docks),
@@ -569,7 +573,7 @@ fn outside_shift(case: &mut Case, rng: &mut Random) -> bool {
 }
 
 /// Room on every side, so that moving a stack does not put it outside.
-fn make_room(case: &mut Case, stack: usize) {
+pub fn make_room(case: &mut Case, stack: usize) {
     let truck = case.plan.stacks[stack].truck as usize - 1;
     case.instance.trucks[truck].length = 20_000;
     case.instance.trucks[truck].width = 20_000;
@@ -623,7 +627,7 @@ fn loose_shift(case: &mut Case, rng: &mut Random) -> bool {
     raise(&mut case.plan.stacks[stack].x, 20_000)
 }
 
-/// Sideways: breaks contacts at a corner and others only by chance.
+/// Sideways: breaks contacts whose edge is just long enough and others only by chance.
 fn loose_aside(case: &mut Case, rng: &mut Random) -> bool {
     let Some(stack) = stack_at(case, rng, 1) else {
         return false;

@@ -226,14 +226,38 @@ fn draw_kinds(rng: &mut Random, wish: Wish, longest: u32, top: u32) -> Vec<Kind>
             let model = &kinds[rng.below(kinds.len())];
             (model.length, model.width)
         } else {
-            let length = rng.between((longest / 6).max(11), longest);
-            let shortest = 10.max(length / 8);
-            let square = rng.one_in(4);
-            (length, if square { length } else { rng.between(shortest, length) })
+            draw_sides(rng, longest)
         };
         kinds.push(Kind { code, length, width });
     }
     kinds
+}
+
+/// Sides for which the whole width of a stack is the edge that it needs, or nearly is.
+const NARROW: [u32; 10] = [60, 79, 80, 81, 90, 98, 99, 100, 101, 102];
+const WIDEST_NARROW: u32 = 102;
+
+/// Length and width.
+fn draw_sides(rng: &mut Random, longest: u32) -> (u32, u32) {
+    // Where no side is longer, all are narrow anyway.
+    if longest > WIDEST_NARROW && rng.one_in(3) {
+        return draw_narrow_sides(rng, longest);
+    }
+    let length = rng.between((longest / 6).max(11), longest);
+    let shortest = 10.max(length / 8);
+    let square = rng.one_in(4);
+    (length, if square { length } else { rng.between(shortest, length) })
+}
+
+/// A narrow width; the length, which a turned stack has across the trailer, is narrow now and then.
+fn draw_narrow_sides(rng: &mut Random, longest: u32) -> (u32, u32) {
+    let side = rng.pick(&NARROW);
+    let other = if rng.one_in(2) {
+        rng.pick(&NARROW)
+    } else {
+        rng.between(WIDEST_NARROW, longest)
+    };
+    (side.max(other), side.min(other))
 }
 
 fn draw_drafts(
@@ -351,16 +375,15 @@ fn find_place(
         y,
         ye: y + across,
     };
+    let footprints = placed.iter().map(|(_, footprint)| footprint);
+    let fronts: Vec<&Footprint> = footprints.filter(|other| other.xe >= foremost).collect();
     let patient = rng.one_in(2);
     let mut best: Option<Footprint> = None;
     for _ in 0..24 {
-        let spot = draw_spot(rng, placed, foremost, across);
-        let (x, y) = match spot {
-            Some(spot) => spot,
-            None => continue,
+        let Some(candidate) = draw_spot(rng, &fronts, foremost, at) else {
+            continue;
         };
-        let candidate = at(x, y);
-        let inside = y >= 0 && candidate.ye <= bound;
+        let inside = candidate.y >= 0 && candidate.ye <= bound;
         if !inside || placed.iter().any(|(_, other)| candidate.overlaps(other)) {
             continue;
         }
@@ -371,32 +394,39 @@ fn find_place(
             break;
         }
     }
-    let rearmost = placed.iter().map(|(_, other)| other).max_by_key(|other| other.xe);
+    let rearmost = fronts.into_iter().max_by_key(|other| other.xe);
+    // The narrower of the two has its whole width at the other.
     let fallback = rearmost.map_or(at(0, 0), |other| at(other.xe, other.y.min(bound - across)));
     best.unwrap_or(fallback)
 }
 
-/// A spot at the front wall or right behind a placed stack, with a liking for corners.
-fn draw_spot(rng: &mut Random, placed: &[(OrderKey, Footprint)], foremost: i64, across: i64) -> Option<(i64, i64)> {
-    if placed.is_empty() {
-        return Some((0, if rng.one_in(4) { i64::from(rng.between(0, 9)) } else { 0 }));
+/// A spot at the front wall or right behind one of these stacks, which holds it. They end where it may begin.
+fn draw_spot(
+    rng: &mut Random,
+    fronts: &[&Footprint],
+    foremost: i64,
+    at: impl Fn(i64, i64) -> Footprint,
+) -> Option<Footprint> {
+    if fronts.is_empty() {
+        return Some(at(0, if rng.one_in(4) { i64::from(rng.between(0, 9)) } else { 0 }));
     }
-    let (_, other) = &placed[rng.below(placed.len())];
+    let other = rng.pick(fronts);
+    let across = at(0, 0).across();
     if foremost == 0 && rng.one_in(3) {
-        return Some((0, rng.pick(&[other.ye, other.y - across, 0])));
+        return Some(at(0, rng.pick(&[other.ye, other.y - across, 0])));
     }
-    let touching = other.y - across + rng.below((other.ye - other.y + across) as usize + 1) as i64;
-    let y = rng.pick(&[
-        other.y,
-        other.ye - across,
-        other.ye,
-        other.y - across,
-        touching,
-        touching,
-        0,
-    ]);
-    let braced = y <= other.ye && other.y <= y + across;
-    (braced && other.xe >= foremost).then_some((other.xe, y))
+    let spot = at(other.xe, draw_aside(rng, &at(other.xe, 0), other));
+    spot.braced_by(other).then_some(spot)
+}
+
+/// Where across the trailer a stack stands right behind another, with a liking for an edge that is just long enough, at either side.
+fn draw_aside(rng: &mut Random, stack: &Footprint, other: &Footprint) -> i64 {
+    let (needed, whole) = (stack.needed_edge_with(other), stack.across().min(other.across()));
+    let between = needed + rng.below((whole - needed) as usize + 1) as i64;
+    let edge = rng.pick(&[needed, needed, needed + 1, between, whole]);
+    let (low, high) = (other.y + edge - stack.across(), other.ye - edge);
+    let touching = other.y - stack.across() + rng.below((other.across() + stack.across()) as usize + 1) as i64;
+    rng.pick(&[low, low, low, high, high, high, touching, 0])
 }
 
 fn make_stacks(

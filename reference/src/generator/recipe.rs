@@ -100,7 +100,8 @@ pub fn wish_for(rng: &mut Random, target: u32) -> Wish {
     Wish {
         tall: matches!(target, 15..=17 | 19 | 20) || chance,
         one_code: target == 17 || (target == 6 && chance),
-        one_truck: matches!(target, 17 | 23 | 25) || rng.one_in(4),
+        // An edge needs two stacks on one used truck.
+        one_truck: matches!(target, 17 | 23 | 25) || rng.one_in(if target == 24 { 2 } else { 4 }),
         two_docks: matches!(target, 16 | 17) || rng.one_in(3),
         many_docks: matches!(target, 25 | 27 | 28) || rng.one_in(3),
         tight: !rng.one_in(3),

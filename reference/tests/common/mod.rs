@@ -16,7 +16,7 @@ pub fn answer(instance: &str, plan: &str) -> Answer {
     check(instance.as_bytes(), plan.as_bytes(), &mut vec![7; NAMED_WORDS])
 }
 
-pub fn accepted(cost: u64, trucks: u32) -> Answer {
+pub const fn accepted(cost: u64, trucks: u32) -> Answer {
     Answer {
         number: 0,
         first: 0,
@@ -27,7 +27,7 @@ pub fn accepted(cost: u64, trucks: u32) -> Answer {
     }
 }
 
-pub fn refused(number: u32, first: u32, second: u32, third: u32) -> Answer {
+pub const fn refused(number: u32, first: u32, second: u32, third: u32) -> Answer {
     Answer {
         number,
         first,

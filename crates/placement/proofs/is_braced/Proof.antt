@@ -2,7 +2,7 @@
 use native.Mathlib.Omega.{arith}
 use borrow.Author.Needs.{needs}
 use Rattle.pairrules.specs.PairRules.{placeAt}
-use Rattle.placement.proofs.Trailer.{NoBrace, at-front, no-brace-start, brace-found, no-brace-more, not-braced}
+use Rattle.placement.proofs.Trailer.{NoBrace, at-front, no-brace-start, both-wide, brace-found, no-brace-more, not-braced}
 use Rattle.placement.proofs.is_braced.Statement.{statement}
 use Rattle.placement.proofs.is_braced.Tie as tie
 
@@ -34,7 +34,10 @@ footprint-along-requires-2 : tie.Need-footprint-along-requires-2 Inv-loop μ-loo
 footprint-along-requires-2 c κs = let passed = c .before .loop .inv in (passed .held, omega (arith, passed .upto, passed .inside))
 
 in-contact-requires : tie.Need-in-contact-requires Inv-loop μ-loop
-in-contact-requires c κs = search needs
+in-contact-requires c κs =
+    let test = c .before in
+    let wide = both-wide (test .before .loop .inv) (test .loop-test .taken) (c .footprint-along2 .ensures) in
+    (omega (arith, wide .0, wide .1), omega (arith, wide .0, wide .1))
 
 returns-2 : tie.Need-returns-2 Inv-loop μ-loop
 returns-2 c =
