@@ -3,20 +3,16 @@
 use mathlib.Core.List.{List, [], _∷_, _++_}
 use Prim.Native.Nat.{ℕ, _+_, _*_}
 use Prim.Native.String.{String}
-use lib.ListN.{drop}
+use lib.ListN.{take, drop}
 use Rattle.meaning.specs.declared.Answer.{Answer}
-use Rattle.meaning.specs.Example.{Lines, lines, exampleInstance, Edit, entry, Case, edits}
+use Rattle.meaning.specs.Example.{Lines, lines, exampleInstance, Edit, entry, line, edited, Case, edits}
 
--- ---- a load of three stacks with an item each: its instance, items in lines 6 to 8, then the truck of document 01's load
+-- ---- a load of three stacks with an item each: document 01's load with other items, in lines 6 to 8 of its instance
 abbrev pub contactInstance : Lines
 contactInstance =
-    lines (
-    "transport=1"
-    ∷ "inventory=0"
-    ∷ "extra=0"
-    ∷ "items=3"
-    ∷ "trucks=1"
-    ∷ "item=1200,500,900,0,1,61,1,1,0,2,5,1,1,1,1,4"
+    edited (line 4 "items=3") (take 5 exampleInstance)
+    ++ lines (
+    "item=1200,500,900,0,1,61,1,1,0,2,5,1,1,1,1,4"
     ∷ "item=1000,300,900,0,1,62,1,1,0,2,5,1,1,1,1,4"
     ∷ "item=1100,600,900,0,1,63,1,1,0,2,5,1,1,1,1,4"
     ∷ []
@@ -49,7 +45,7 @@ turned n = entry (2 * n) 6 "2"
 
 -- what is answered where every stack is held
 abbrev pub held : Answer
-held = record { number = 0; first = 0; second = 0; third = 0; cost = 100000; trucks = 1 }
+held = record { number = 0; first = 0; second = 0; third = 0; cost = 272000; trucks = 1 }
 
 -- and where this one is not
 abbrev pub unheld : ℕ → Answer

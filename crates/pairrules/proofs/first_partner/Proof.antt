@@ -26,7 +26,7 @@ returns-2 : tie.Need-returns-2
 returns-2 c = rw (c .enum-told2 .given .1) refl
 
 returns-3 : tie.Need-returns-3
-returns-3 c = search needs
+returns-3 c = rw (c .enum-told3 .given .1) refl
 
 pub first-partner-spec : {M : Type 1} → statement M
 first-partner-spec =
