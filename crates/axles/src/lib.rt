@@ -1,5 +1,7 @@
 // The rules on the weight of a used truck: 26 overload, 27 middle axle, 28 rear axle. Its stacks stand together in the rows, as a block.
 // Levers are signed: a stack whose middle lies behind the rear axle counts negative. Nothing is divided.
+#![tactic(auto)]
+
 ghost use Rattle.std.specs.Prelude.{◌≡◌, cond, ◌+◌, ◌*◌, ◌≤◌, pos, nat_abs, length};
 ghost use Rattle.meaning.specs.Lists.{any};
 ghost use Rattle.meaning.specs.Model.{truck_numbered};
@@ -68,7 +70,7 @@ fn lever_by(weight: u32, x: u32, xe: u32, twice: u32) -> i64
 }
 
 // What stacks bring together: their weight and their levers.
-#[derive(Drop)]
+#[derive(Clone, Copy)]
 struct Sums {
     weight: u64,
     levers: i64,
@@ -118,7 +120,7 @@ fn sums_on(rows: &[u32], on: Block, departure: u32, twice: u32) -> Sums
 // ---- the axles
 
 // What the axles' rules ask of a truck's line, by the paper's names, and 2A.
-#[derive(Drop)]
+#[derive(Clone, Copy)]
 struct AxleData {
     cm: u32,
     cjfm: u32,
@@ -188,7 +190,7 @@ fn rear_holds(h: i64, weight: u64, axles: AxleData) -> bool
 }
 
 // Which axles are exceeded.
-#[derive(Drop)]
+#[derive(Clone, Copy)]
 struct Exceeded {
     middle: bool, // 27
     rear: bool, // 28
@@ -220,7 +222,7 @@ fn exceeded_axles(rows: &[u32], on: Block, departure: u32, axles: AxleData) -> E
 // ---- the places
 
 // The lowest places where the rules on the weight of a used truck are broken.
-#[derive(Drop)]
+#[derive(Clone, Copy)]
 pub struct WeightPlaces {
     pub overload: Found, // 26
     pub middle: Found, // 27

@@ -1,4 +1,6 @@
 // The bad line of a refused file, as a part of that file.
+#![tactic(auto)]
+
 ghost use Rattle.std.specs.Prelude.{◌≡◌};
 ghost use Rattle.meaning.specs.BadLine.{line_span, handed_back, part_bytes};
 ghost use Rattle.badline.specs.Located.{span_of, part_of, part_found, part_pointer};
@@ -6,7 +8,7 @@ ghost use Rattle.badline.specs.Located.{span_of, part_of, part_found, part_point
 use text::line_end;
 
 // Where a line stands in its file: from its first byte up to its end, which is not included.
-#[derive(Drop)]
+#[derive(Clone, Copy)]
 pub enum LineFound {
     At(usize, usize),
     Absent,
@@ -34,7 +36,7 @@ fn find_line(file: &[u8], line: u32) -> LineFound
 
 // The part of a file that the bad line is: whether that file is the plan, and from where to where. Its fields lie as in C.
 #[repr(C)]
-#[derive(Drop)]
+#[derive(Clone, Copy)]
 pub struct BadLine {
     pub plan: bool,
     pub start: usize,

@@ -1,4 +1,6 @@
 // The check: two files and a lent table in, the answer out.
+#![tactic(auto)]
+
 ghost use Rattle.std.specs.Prelude.{◌≡◌};
 ghost use Rattle.meaning.specs.Limits.{small};
 ghost use Rattle.meaning.specs.Table.{instance_in, stacks_in};

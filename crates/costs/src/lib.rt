@@ -1,4 +1,6 @@
 // What a plan costs: the price of each used truck, and the inventory cost of the items that arrive before their latest day.
+#![tactic(auto)]
+
 ghost use Rattle.std.specs.Prelude.{◌≡◌, ◌+◌, ◌-◌, ◌*◌, ◌≤◌, ◌<◌, length};
 ghost use Rattle.meaning.specs.Lists.{sum};
 ghost use Rattle.meaning.specs.Model.{item, IC, IDL};

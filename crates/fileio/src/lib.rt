@@ -1,5 +1,7 @@
 // What the programs share: a file read whole, numbers and the answer printed. The checker does not lean on this crate: what the operating
 // system does is assumed of the kit's libraries under it.
+#![tactic(auto)]
+
 ghost use Rattle.io.specs.Counts.{IsPrefixLen};
 
 use bytes::copy;

@@ -1,4 +1,6 @@
 // The instance file, read into the table: the head's numbers, the items, and the trucks behind them.
+#![tactic(auto)]
+
 ghost use Rattle.std.specs.Prelude.{◌≡◌, ◌*◌, ◌≤◌, length};
 ghost use Rattle.meaning.specs.Limits.{stacks_at};
 ghost use Rattle.meaning.specs.Reader.{line, times};
@@ -47,7 +49,7 @@ fn read_items(file: &[u8], p: Progress, count: usize, part: &mut [u32]) -> Progr
 // ---- the whole file
 
 // How far the head is read, and how many items and trucks it announces, both within the limits also after a refusal.
-#[derive(Drop)]
+#[derive(Clone, Copy)]
 pub struct HeadAnswer {
     pub progress: Progress,
     pub items: usize,

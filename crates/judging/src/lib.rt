@@ -1,5 +1,7 @@
 // The verdict on a plan that was read: the first broken rule of the verdict table with its lowest place, or the cost and the number of used
 // trucks. Rule 9 is asked first; the others are the loading rules, whose order is told by their ranks.
+#![tactic(auto)]
+
 ghost use Rattle.std.specs.Prelude.{◌≡◌, ◌↔◌, true, [], ◌+◌, ◌-◌, ◌*◌, ◌≤◌, ◌<◌, length};
 ghost use Rattle.meaning.specs.Measures.{used_by, used_trucks};
 ghost use Rattle.meaning.specs.Rules.{loading_rules, pair_places, single_pair};
@@ -29,7 +31,7 @@ use table::stack_count;
 // ---- what is asked of the used trucks
 
 // The kinds of rules that are asked of the used trucks.
-#[derive(Drop)]
+#[derive(Clone, Copy)]
 struct Asked {
     single_pair: bool, // 17
     placement: bool, // 23 to 25
@@ -125,14 +127,14 @@ fn kinds_below(rank: usize) -> Asked
 // ---- what the used trucks answer
 
 // The used trucks of a plan: how many, and what they cost together in thousandths.
-#[derive(Drop)]
+#[derive(Clone, Copy)]
 struct UsedTrucks {
     count: u32,
     cost: u64,
 }
 
 // What the used trucks keep and break, of the kinds that were asked.
-#[derive(Drop)]
+#[derive(Clone, Copy)]
 struct Findings {
     single_pair: bool, // 17 is kept
     placement: Placement, // 23 and 25 are kept, and where 24 is broken
@@ -140,7 +142,7 @@ struct Findings {
 }
 
 // All that a walk over the used trucks tells.
-#[derive(Drop)]
+#[derive(Clone, Copy)]
 struct TrucksAsked {
     found: Findings,
     used: UsedTrucks,
@@ -429,7 +431,7 @@ fn accept(t: &[u32], limits: Limits, used: UsedTrucks) -> Answer
 }
 
 // What the stacks and the used trucks tell of the loading rules: the rank of the first that is broken, or their number.
-#[derive(Drop)]
+#[derive(Clone, Copy)]
 struct Survey {
     rank: usize,
     first: Breach, // the first broken rule on single stacks

@@ -1,5 +1,7 @@
 // What C and Rust call. The static library has the check, the bad line and the writing of files under these names, each with the contract of the
 // function that it calls. The callers' side is in bindings/: there a slice is a pointer and a length.
+#![tactic(auto)]
+
 ghost use Rattle.std.specs.Prelude.{◌≡◌};
 ghost use Rattle.meaning.specs.Limits.{small};
 ghost use Rattle.meaning.specs.BadLine.{handed_back};

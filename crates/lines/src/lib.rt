@@ -1,5 +1,7 @@
 // One line after another: each is stored, then judged by its form's ranges. Every function takes the answer so far and returns the next
 // one; a refusal that comes in goes out unchanged, so callers need no branches.
+#![tactic(auto)]
+
 ghost use Rattle.std.specs.Prelude.{◌≡◌, ◌-◌, ◌≤◌, ◌<◌, length};
 ghost use Rattle.meaning.specs.Lists.{padded};
 ghost use Rattle.meaning.specs.Text.{bytes};
@@ -17,14 +19,14 @@ use table::clear;
 use text::{ParsedLine, parse_line};
 
 // Where the next line begins, and how many lines stand before it.
-#[derive(Drop)]
+#[derive(Clone, Copy)]
 pub struct Cursor {
     pub at: usize,
     pub line: usize,
 }
 
 // How far a file is read: the next cursor; or how many lines stand before the first bad one, which is wrong in form or out of range.
-#[derive(Drop)]
+#[derive(Clone, Copy)]
 pub enum Progress {
     Next(Cursor),
     WrongForm(usize),
@@ -36,7 +38,7 @@ pub const START: Progress = Progress::Next(Cursor { at: 0, line: 0 });
 
 // A line whose numbers are stored and not yet judged: how many lines stand before it, the next cursor, and how many numbers it has. Or
 // what was refused, as above.
-#[derive(Drop)]
+#[derive(Clone, Copy)]
 pub enum StoredLine {
     Numbers(usize, Cursor, usize),
     WrongForm(usize),
@@ -96,7 +98,7 @@ pub fn judged(stored: StoredLine, in_range: bool) -> Progress
 }
 
 // How far the file is read, and how many entries the last line has; none after a refusal.
-#[derive(Drop)]
+#[derive(Clone, Copy)]
 pub struct EntriesAnswer {
     pub progress: Progress,
     pub count: usize,
@@ -156,7 +158,7 @@ pub fn counted_line(file: &[u8], p: Progress, key: &[u8], out: &mut [u32]) -> En
 }
 
 // How far the file is read, and the number of the line, which is within its range also after a refusal.
-#[derive(Drop)]
+#[derive(Clone, Copy)]
 pub struct NumberAnswer {
     pub progress: Progress,
     pub value: u32,

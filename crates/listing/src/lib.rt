@@ -1,5 +1,7 @@
 // The two files of a filled table, written out line by line. A writer writes from the first byte that it is lent on and answers how many
 // bytes it wrote.
+#![tactic(auto)]
+
 ghost use mathlib.Core.List.{[], ◌∷◌, flat_map};
 ghost use Rattle.std.specs.Prelude.{◌≤◌, ◌<◌, length};
 ghost use Rattle.meaning.specs.Model.{truck_numbered};

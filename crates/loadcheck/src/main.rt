@@ -1,5 +1,7 @@
 // The program: checks the plan.txt of the working directory against its instance.txt and prints the answer in six lines. A file that is
 // not there reads as empty.
+#![tactic(auto)]
+
 use checking::check;
 use fileio::{print_answer, read_file};
 

@@ -1,6 +1,8 @@
 // The program: says in one sentence what the verdict on the plan.txt of a folder means, checked against its instance.txt. Of a file that
 // cannot be read it prints the bad line too. The folders are the arguments, and without one it is the working directory. A file that is not
 // there reads as empty.
+#![tactic(auto)]
+
 use badline::{bad_line, locate};
 use checking::check;
 use fileio::{print, read_file_in};

@@ -1,5 +1,5 @@
 -- The words of a model with room in the table hold that model, also with words beyond them, and are as many as are named.
-use mathlib.Core.Path.{◌≡◌, refl, sym, ap, ap₂, ◌∙◌}
+use mathlib.Core.Path.{◌≡◌, refl, sym, ap, ap₂, subst, ◌∙◌}
 use mathlib.Core.List.{List, [], ◌∷◌, ◌++◌, map, flat_map, append_assoc, append-nil, map-id}
 use Prim.Native.Nat.{ℕ, zero, suc, ◌+◌, ◌-◌, ◌*◌, ◌≤◌}
 use native.Mathlib.Nat.{mul-le-mul_left}
@@ -207,9 +207,19 @@ stacks_decode (s ∷ p) before after rest h =
     let row = one_stack_words (length before) s in
     let later = stack_words (length before + length s.load) p in
     let e = length_one_stack_words (length before) s h.0 in
-    rw (append_assoc s.load (load_entries p) after, append_assoc row later rest, take_at row (later ++ rest) 8 e, drop_at row (later ++ rest) 8 e)
-    (ap₂ {C = List Stack} (λ a r. a ∷ r) (stack_decodes s before (load_entries p ++ after) h.0)
-    (rw (← append_assoc before s.load (load_entries p ++ after), ← length-append before s.load) (stacks_decode p (before ++ s.load) after rest h.1)))
+    let loads = before ++ ((s.load ++ load_entries p) ++ after) in
+    let first : stack_in loads row ≡ s = rw (append_assoc s.load (load_entries p) after) (stack_decodes s before (load_entries p ++ after) h.0) in
+    let along : (before ++ s.load) ++ (load_entries p ++ after) ≡ loads =
+    append_assoc before s.load (load_entries p ++ after) ∙ ap (λ (ls : List ℕ). before ++ ls) (sym (append_assoc s.load (load_entries p) after))
+    in
+    let others : map (stack_in loads) (chunks 8 (length p) (later ++ rest)) ≡ p =
+    subst (λ (ls : List ℕ). map (stack_in ls) (chunks 8 (length p) (later ++ rest)) ≡ p) along
+    (subst
+    (λ (n : ℕ). map (stack_in ((before ++ s.load) ++ (load_entries p ++ after))) (chunks 8 (length p) (stack_words n p ++ rest)) ≡ p)
+    (length-append before s.load) (stacks_decode p (before ++ s.load) after rest h.1))
+    in
+    rw (append_assoc row later rest, take_at row (later ++ rest) 8 e, drop_at row (later ++ rest) 8 e)
+    (ap₂ {C = List Stack} (λ a r. a ∷ r) first others)
 
 pub length_stack_words : (before : ℕ) (p : List Stack) → Every (λ (s : Stack). length s.fields ≡ 6) p → length (stack_words before p) ≡ 8 * length p
 unfolding stack_words

@@ -78,7 +78,7 @@ module _ {m : Limits} {i : Instance} (h : InstanceMeets m i) where
       → (s : Stack) → In s p → WellFormedStack i s
   stacks_formed earlier loaded [] k s n = absurd n
   stacks_formed earlier loaded (r ∷ p) k s (inl e) = subst (WellFormedStack i) (sym e) (stack_formed r earlier loaded k.0 k.1)
-  stacks_formed earlier loaded (r ∷ p) k s (inr n) = stacks_formed _ _ p k.2 s n
+  stacks_formed earlier loaded (r ∷ p) k s (inr n) = stacks_formed (number r ∷ earlier) _ p k.2 s n
 
 -- ---- the numbers of the stacks
 module _ (most items trucks : ℕ) where
@@ -89,16 +89,16 @@ module _ (most items trucks : ℕ) where
   not_earlier earlier loaded (r ∷ p) h s (inl e) k =
       let f = (and_reads (all_within (stack_ranges trucks) r.fields) (not (listed (number r) earlier))).0 h.0.fits in
       (not_reads (listed (number r) earlier)).0 f.1 ((listed_reads (number r) earlier).1 (subst (λ (z : Stack). In (number z) earlier) e k))
-  not_earlier earlier loaded (r ∷ p) h s (inr m) k = not_earlier _ _ p h.2 s m (inr k)
+  not_earlier earlier loaded (r ∷ p) h s (inr m) k = not_earlier (number r ∷ earlier) _ p h.2 s m (inr k)
 
   -- so two stacks with one number are one stack
   known_by_number : (earlier : List ℕ) (loaded : ℕ) (p : List Stack) → StacksMeet most items trucks earlier loaded p
       → (s r : Stack) → In s p → In r p → number s ≡ number r → s ≡ r
   known_by_number earlier loaded [] h s r m n e = absurd m
   known_by_number earlier loaded (q ∷ p) h s r (inl a) (inl b) e = a ∙ sym b
-  known_by_number earlier loaded (q ∷ p) h s r (inl a) (inr n) e = absurd (not_earlier _ _ p h.2 r n (inl (sym e ∙ ap number a)))
-  known_by_number earlier loaded (q ∷ p) h s r (inr m) (inl b) e = absurd (not_earlier _ _ p h.2 s m (inl (e ∙ ap number b)))
-  known_by_number earlier loaded (q ∷ p) h s r (inr m) (inr n) e = known_by_number _ _ p h.2 s r m n e
+  known_by_number earlier loaded (q ∷ p) h s r (inl a) (inr n) e = absurd (not_earlier (number q ∷ earlier) _ p h.2 r n (inl (sym e ∙ ap number a)))
+  known_by_number earlier loaded (q ∷ p) h s r (inr m) (inl b) e = absurd (not_earlier (number q ∷ earlier) _ p h.2 s m (inl (e ∙ ap number b)))
+  known_by_number earlier loaded (q ∷ p) h s r (inr m) (inr n) e = known_by_number (number q ∷ earlier) _ p h.2 s r m n e
 
 pub meets_formed : (m : Limits) (i : Instance) (p : List Stack) → FilesMeet m i p → WellFormed i p
 meets_formed m i p h =

@@ -1,5 +1,7 @@
 // The rules on two stacks of one used truck: 17 second pair, 23 overlap, 25 order; and the contact of two stacks, by which 24 is told. The
 // rows hold the stacks of a used truck together, by ascending number.
+#![tactic(auto)]
+
 ghost use Rattle.std.specs.Prelude.{◌≡◌, ◌↔◌, true, [], ◌+◌, ◌-◌, ◌*◌, ◌≤◌, ◌<◌, min, max, length};
 ghost use Rattle.meaning.specs.Table.{instance_in, stacks_in};
 ghost use Rattle.meaning.specs.Rules.{pair_places, single_pair};

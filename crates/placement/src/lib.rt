@@ -1,6 +1,8 @@
 // Where the stacks of a used truck stand on its floor: whether 23 overlap and 25 order are kept, and the lowest stack that breaks 24
 // unbraced. The stacks are taken along the trailer, by ascending x, so that a stack meets its neighbours first and few pairs have to be
 // looked at. Each function looks at the stacks of one used truck.
+#![tactic(auto)]
+
 ghost use Rattle.std.specs.Prelude.{◌≡◌, ◌↔◌, true, ◌+◌, ◌-◌, ◌≤◌, ◌<◌, length};
 ghost use Rattle.manifest.specs.Manifest.{footprint_at};
 ghost use Rattle.pairrules.specs.PairRules.{disjoint_at, in_order_at, Each, EachTwo, place_at};
@@ -12,7 +14,7 @@ use search::{Found, lower_of, place_if};
 use table::as_index;
 use views::Footprint;
 
-#[derive(Drop)]
+#[derive(Clone, Copy)]
 pub struct Placement {
     pub apart: bool, // 23: no two overlap
     pub in_order: bool, // 25: where no two overlap, each two keep the loading order

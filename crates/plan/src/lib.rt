@@ -1,4 +1,6 @@
 // The plan file, read into the table's stacks and the loads behind them.
+#![tactic(auto)]
+
 ghost use Rattle.std.specs.Prelude.{◌≡◌, [], ◌+◌, ◌*◌, ◌≤◌, ◌<◌, length};
 ghost use Rattle.meaning.specs.Reader.{line};
 ghost use Rattle.meaning.specs.Files.{stack_line, load_line, stack_lines};
@@ -17,7 +19,7 @@ use table::clear;
 use table::layout::{LOAD_COUNT, LOAD_FIRST, STACK_COUNT, STACK_FIELDS, STACK_WORDS};
 
 // How many items and trucks the instance has.
-#[derive(Drop)]
+#[derive(Clone, Copy)]
 pub struct Counts {
     pub items: u32,
     pub trucks: u32,
@@ -78,7 +80,7 @@ fn read_load(
 }
 
 // How far the stacks are read: how many of them, and how many entries their loads hold.
-#[derive(Drop)]
+#[derive(Clone, Copy)]
 struct StacksRead {
     progress: Progress,
     stacks: usize,
@@ -142,7 +144,7 @@ fn read_stacks(
 }
 
 // How far the plan is read, and how many stacks it announces.
-#[derive(Drop)]
+#[derive(Clone, Copy)]
 pub struct PlanAnswer {
     pub progress: Progress,
     pub stacks: u32,

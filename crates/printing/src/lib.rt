@@ -1,4 +1,6 @@
 // Numbers and lines written into lent bytes. A writer writes from the first byte on and answers how many bytes it wrote.
+#![tactic(auto)]
+
 ghost use Rattle.std.specs.Prelude.{◌≡◌, ◌≤◌, length};
 ghost use Rattle.meaning.specs.Print.{digits};
 ghost use Rattle.printing.specs.Wrote.{Wrote, numbers_bytes, line_bytes};

@@ -1,4 +1,6 @@
 // Whether words are in range, by document 01, "The two files": tests of lent words, however these came to stand where they stand.
+#![tactic(auto)]
+
 ghost use Rattle.std.specs.Prelude.{◌≡◌, ◌&&◌, map, ◌-◌, ◌*◌, ◌≤◌, ◌<◌, length, get_or};
 ghost use Rattle.meaning.specs.Lists.{all, between, chunks, listed, distinct, order_in};
 ghost use Rattle.meaning.specs.Places.{lowest};
@@ -225,7 +227,7 @@ fn same_length_and_width(items: &[u32], n: u32, k: u32) -> bool
 }
 
 // Verdict 6: an item that differs in length or width from the lowest-numbered item of its code, and that one.
-#[derive(Drop)]
+#[derive(Clone, Copy)]
 pub enum Clash {
     Between(u32, u32),
     Nowhere,

@@ -1,4 +1,6 @@
 // Both files, read into the lent table: the first refusal of 1 to 8 with its places, or the table filled with what the files say.
+#![tactic(auto)]
+
 ghost use Rattle.std.specs.Prelude.{◌≡◌, ◌+◌, ◌≤◌, length};
 ghost use Rattle.meaning.specs.Limits.{small, named};
 ghost use Rattle.meaning.specs.Places.{lowest};
@@ -35,7 +37,7 @@ const PLAN_FORM: u32 = 7;
 const PLAN_RANGE: u32 = 8;
 
 // What two files are read as: refused with the answer, or readable, and then the rules decide.
-#[derive(Drop)]
+#[derive(Clone, Copy)]
 pub enum FilesRead {
     Refused(Answer),
     Readable,

@@ -1,10 +1,12 @@
 // The loading rules, which are all rules but 9: their names, and the order in which they are asked. A verdict's number is the name of its
 // rule and not its place: the order is that of one list.
+#![tactic(auto)]
+
 ghost use Rattle.std.specs.Prelude.{◌≡◌, ◌<◌, get_or};
 ghost use Rattle.rules.specs.LoadingRules.{verdicts, rule_count, rule_of, rule_at};
 
 // The rules on an item of a stack.
-#[derive(Drop)]
+#[derive(Clone, Copy)]
 pub enum ItemRule {
     Plant, // 10
     Product, // 11
@@ -16,7 +18,7 @@ pub enum ItemRule {
 }
 
 // The rules on the stack itself.
-#[derive(Drop)]
+#[derive(Clone, Copy)]
 pub enum OwnRule {
     Docks, // 16
     TopHeavy, // 19
@@ -26,14 +28,14 @@ pub enum OwnRule {
 }
 
 // The rules on a single stack.
-#[derive(Drop)]
+#[derive(Clone, Copy)]
 pub enum StackRule {
     EachItem(ItemRule),
     Own(OwnRule),
 }
 
 // The rules on two stacks of a used truck.
-#[derive(Drop)]
+#[derive(Clone, Copy)]
 pub enum PairRule {
     SecondPair, // 17
     Overlap, // 23
@@ -41,7 +43,7 @@ pub enum PairRule {
 }
 
 // The rules on all stacks of a used truck.
-#[derive(Drop)]
+#[derive(Clone, Copy)]
 pub enum TruckRule {
     Unbraced, // 24
     Overload, // 26
@@ -50,7 +52,7 @@ pub enum TruckRule {
 }
 
 // A loading rule.
-#[derive(Drop)]
+#[derive(Clone, Copy)]
 pub enum Rule {
     OfStacks(StackRule),
     OfPairs(PairRule),

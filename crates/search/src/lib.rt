@@ -1,4 +1,6 @@
 // What a search for broken rules answers. Most searches keep the lowest place that they have found so far, and may then look in any order.
+#![tactic(auto)]
+
 ghost use Rattle.std.specs.Prelude.{◌≡◌, ◌↔◌, true};
 ghost use Rattle.meaning.specs.Lists.{only_if};
 ghost use Rattle.meaning.specs.Places.{place, lower};
@@ -7,7 +9,7 @@ ghost use Rattle.search.specs.Lowest.{lowest_in, lower_place, lower_found};
 use meaning::Place;
 
 // The lowest place where a rule is broken, or none.
-#[derive(Drop)]
+#[derive(Clone, Copy)]
 pub enum Found {
     At(Place),
     Nothing,

@@ -1,4 +1,6 @@
 // A verdict in one sentence: its number, its word from document 01's table, and its places by name.
+#![tactic(auto)]
+
 use fileio::{print, print_number};
 use meaning::Answer;
 use text::first_byte;

@@ -1,5 +1,7 @@
 // Rule 9, and the rules whose test looks at one stack alone: those on its items, 10 to 15 and 18, and 16 and 19 to 22. One walk over the
 // stacks tells the first of them that is broken.
+#![tactic(auto)]
+
 ghost use Rattle.std.specs.Prelude.{◌≡◌, ◌↔◌, true, not, cond, [], ◌∷◌, ◌+◌, ◌*◌, ◌≤◌, ◌<◌, leb, eqb, length, get_or};
 ghost use Rattle.meaning.specs.Model.{item};
 ghost use Rattle.meaning.specs.Measures.{bottom};
@@ -318,7 +320,7 @@ fn own_rules_kept(t: &[u32], limits: Limits, rows: &[u32], k: usize) -> bool
 // ---- the first rule on stacks that is broken
 
 // A broken rule by its rank, and a place where it is broken. Where no rule is, the rank is RULES and the place is zeros.
-#[derive(Drop)]
+#[derive(Clone, Copy)]
 pub struct Breach {
     pub rank: usize,
     pub place: Place,

@@ -1,5 +1,7 @@
 // Whether a table's words are those that some readable pair of files fills it with: document 02, F-1. The words are tested by the tests that
 // judge the lines of the files, part by part; no part is looked at whose length the parts before leave open.
+#![tactic(auto)]
+
 ghost use Rattle.std.specs.Prelude.{◌≡◌, ◌&&◌, [], ◌+◌, ◌*◌, ◌≤◌, length, get_or, take, drop};
 ghost use Rattle.meaning.specs.Lists.{chunks};
 ghost use Rattle.meaning.specs.Write.{stored};
@@ -140,7 +142,7 @@ fn trucks_stored(words: &[u32], count: usize) -> bool
 // ---- stacks and loads
 
 // How many entries the loads of all stacks hold, or that a row is not that of a stack.
-#[derive(Drop)]
+#[derive(Clone, Copy)]
 pub enum Loaded {
     Entries(usize),
     Unfit,

@@ -5,6 +5,8 @@
 //
 // data/files.bin has the files of all cases; a line of data/cases.txt says where a case's instance begins and how long it is, the same
 // of its plan, and how many words of the table are lent. data/labels.txt says in a word what each case tries.
+#![tactic(auto)]
+
 ghost use Rattle.std.specs.Prelude.{◌<◌};
 
 use fileio::{print, print_answer, print_number, read_file};

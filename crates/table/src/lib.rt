@@ -1,4 +1,6 @@
 // The working table: where its parts begin, clearing, and the accessors. No other code knows where a word stands in a filled table.
+#![tactic(auto)]
+
 ghost use Rattle.std.specs.Prelude.{◌≡◌, ◌+◌, ◌*◌, ◌≤◌, ◌<◌, length, get_or, take, drop, replicate};
 ghost use Rattle.meaning.specs.Lists.{listed, order_in};
 ghost use Rattle.meaning.specs.Limits.{small, trucks_at, stacks_at, loads_at, named};

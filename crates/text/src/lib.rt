@@ -1,4 +1,6 @@
 // One line of a file: where it ends, its key, its value, and the value's numbers as 32-bit words.
+#![tactic(auto)]
+
 ghost use Rattle.std.specs.Prelude.{◌≡◌, cond, ◌+◌, ◌≤◌, length, drop};
 ghost use Rattle.std.proofs.Math.Option.{none, some};
 ghost use Rattle.std.proofs.lemmas.List.Edits.{sets};
@@ -103,7 +105,7 @@ fn as_word(n: u64) -> u32
 }
 
 // What stands at a place of a value: a number and where it ends, or none.
-#[derive(Drop)]
+#[derive(Clone, Copy)]
 pub enum Parsed {
     Word(u32, usize),
     Malformed,
@@ -142,7 +144,7 @@ fn parse_number(value: &[u8], from: usize) -> Parsed
 }
 
 // How many numbers a value has; or that it has a part that is no number, too few numbers, or more than there is room for.
-#[derive(Drop)]
+#[derive(Clone, Copy)]
 pub enum ParsedNumbers {
     Count(usize),
     Malformed,
@@ -180,7 +182,7 @@ fn parse_numbers(value: &[u8], least: usize, out: &mut [u32]) -> ParsedNumbers
 }
 
 // Where the next line begins and how many numbers this one has; or that it is unended, has another key or is no list of so many numbers.
-#[derive(Drop)]
+#[derive(Clone, Copy)]
 pub enum ParsedLine {
     Next(usize, usize),
     WrongForm,

@@ -1,4 +1,6 @@
 // A truck's lines, read into the truck's own 160 words.
+#![tactic(auto)]
+
 ghost use Rattle.std.specs.Prelude.{◌≡◌, ◌*◌, ◌≤◌, length};
 ghost use Rattle.meaning.specs.Reader.{line, times};
 ghost use Rattle.meaning.specs.Files.{truck_line, docks_line, truck_lines};

@@ -1,5 +1,7 @@
 // What the rules see of a stack: small structs by value, worked out from its fields and its load. The table is asked for items and trucks
 // only, so a stack that stands in no table has the same measures.
+#![tactic(auto)]
+
 ghost use Rattle.std.specs.Prelude.{◌≡◌, [], ◌∷◌, ◌*◌, ◌≤◌, ◌<◌, length, get_or, drop};
 ghost use Rattle.meaning.specs.Lists.{sum, listed, order_in};
 ghost use Rattle.meaning.specs.Model.{item, truck_of, truck_numbered, IL, IW, IG, IU, IK};
@@ -18,7 +20,7 @@ use table::{
 };
 
 // Where a stack stands, and which way it is turned.
-#[derive(Drop)]
+#[derive(Clone, Copy)]
 pub struct Position {
     pub x: u32,
     pub y: u32,
@@ -26,14 +28,14 @@ pub struct Position {
 }
 
 // The extent of a stack along the trailer and across it.
-#[derive(Drop)]
+#[derive(Clone, Copy)]
 pub struct Extent {
     pub along: u32,
     pub across: u32,
 }
 
 // The ground that a stack takes: from x to xe along the trailer, from y to ye across it.
-#[derive(Drop)]
+#[derive(Clone, Copy)]
 pub struct Footprint {
     pub x: u32,
     pub xe: u32,
@@ -42,7 +44,7 @@ pub struct Footprint {
 }
 
 // The weight and the height of a stack.
-#[derive(Drop)]
+#[derive(Clone, Copy)]
 pub struct Size {
     pub weight: u32,
     pub height: u32,
@@ -50,7 +52,7 @@ pub struct Size {
 
 // What the loading order P4 compares: supplier and supplier dock, their loading orders, and the lowest and the highest loading order of the
 // plant docks.
-#[derive(Drop)]
+#[derive(Clone, Copy)]
 pub struct Rank {
     pub supplier: u32,
     pub dock: u32,
@@ -214,7 +216,7 @@ pub fn plant_dock_order(t: &[u32], limits: Limits, truck: u32, n: u32) -> usize
 }
 
 // The lowest and the highest of some loading orders.
-#[derive(Drop)]
+#[derive(Clone, Copy)]
 struct OrderRange {
     lowest: u32,
     highest: u32,

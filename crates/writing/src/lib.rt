@@ -1,4 +1,6 @@
 // The two files written back from a table: document 02, F-1.
+#![tactic(auto)]
+
 ghost use Rattle.std.specs.Prelude.{◌≡◌, length};
 ghost use Rattle.meaning.specs.Limits.{small};
 ghost use Rattle.meaning.specs.Write.{turned_down, written};
