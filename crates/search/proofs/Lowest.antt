@@ -1,7 +1,7 @@
 -- The lowest of some places: of two lists, of the same places in another order, and as a loop down a list finds it.
 use mathlib.Core.Path.{◌≡◌, refl, sym, ap, ap₂, ◌∙◌}
 use mathlib.Core.Logic.{inl, inr, ⊎_elim}
-use mathlib.Core.Bool.{Bool, true, false, ◌&&◌, ◌||◌, and_false, or_false}
+use mathlib.Core.Bool.{Bool, true, false, ◌&&◌, ◌||◌, and-false, or-false}
 use mathlib.Core.Option.{Option, none, some}
 use mathlib.Core.List.{List, [], ◌∷◌, ◌++◌, flat_map}
 use Prim.Native.Nat.{ℕ, ◌-◌, ◌≤◌, ◌<◌}
@@ -25,7 +25,7 @@ pub lower_tested : (p q : Place)
     || (eqb p.first q.first && (ltb p.second q.second || (eqb p.second q.second && ltb p.third q.third))))
     ≡ lower p q
 unfolding lower below_or
-lower_tested p q = rw (and_false (eqb p.third q.third), or_false (ltb p.third q.third)) refl
+lower_tested p q = rw (and-false (eqb p.third q.third), or-false (ltb p.third q.third)) refl
 
 -- ---- two answers, as `match` takes them apart
 pub one_found : (a b : Found) (p : Place) → a ≡ At p → b ≡ Nothing → At p ≡ lower_found a b

@@ -1,6 +1,6 @@
 -- Numbers by their digits: a part from an index on, when some bytes are what their digits are, and the state of a loop over the digits.
 use mathlib.Core.Path.{◌≡◌, refl, sym, ap, ◌∙◌}
-use mathlib.Core.Bool.{Bool, true, false, cond, not, ◌&&◌, and_false}
+use mathlib.Core.Bool.{Bool, true, false, cond, not, ◌&&◌, and-false}
 use mathlib.Core.Option.{Option, none, some}
 use mathlib.Core.List.{List, ◌∷◌}
 use Prim.Native.Nat.{ℕ, suc, ◌+◌, ◌-◌, ◌*◌, ◌^◌, ◌≤◌, ◌<◌}
@@ -45,7 +45,7 @@ plain_number bs h k plain =
 -- too many bytes, or one that is no digit
 long_number : (bs : List ℕ) → 10 < length bs → number bs ≡ none
 unfolding number
-long_number bs h = simp (lt-leb (length bs) 10 h, and_false)
+long_number bs h = simp (lt-leb (length bs) 10 h, and-false)
 
 no_number : (bs : List ℕ) → decimal_from 0 bs ≡ none → number bs ≡ none
 unfolding number
@@ -137,7 +137,7 @@ module _ {value : List ℕ} {from n i : ℕ} (p : Passed value from n i) where
     unfolding number
     needless h e =
         let zero-first : get_or (first_part (drop from value)) 0 0 ≡ 48 = begins (omega arith) ∙ e in
-        refused (simp (lt-ltb 1 (length (first_part (drop from value))) (omega (arith, size)), eq-eqb _ 48 zero-first, and_false))
+        refused (simp (lt-ltb 1 (length (first_part (drop from value))) (omega (arith, size)), eq-eqb _ 48 zero-first, and-false))
 
     pub number_read : (i ≡ from → ⊥) → (1 < i - from → get_or value from 0 ≡ 48 → ⊥) → Answer (Word (word n) i)
     unfolding parsed_part parsed_number

@@ -1,6 +1,6 @@
 -- The parts of a value, each found by its comma, and the state of a loop that stores them one after the other.
 use mathlib.Core.Path.{◌≡◌, refl, sym, ◌∙◌}
-use mathlib.Core.Bool.{Bool, true, false, cond, and_false}
+use mathlib.Core.Bool.{Bool, true, false, cond, and-false}
 use mathlib.Core.Option.{Option, none, some}
 use mathlib.Core.List.{List, [], ◌∷◌}
 use Prim.Native.Nat.{ℕ, zero, suc, ◌+◌, ◌-◌, ◌≤◌, ◌<◌}
@@ -66,7 +66,7 @@ module _ (least most : ℕ) where
   after_full k none h = refl
   after_full k (some ns) h =
       let over : most < k + length ns = omega arith in
-      simp (lt-leb (k + length ns) most over, and_false)
+      simp (lt-leb (k + length ns) most over, and-false)
 
 -- a part that is no number is the end of the words
 leading_none : (room : ℕ) (part : List ℕ) (parts : List (List ℕ)) → number part ≡ none → leading room (part ∷ parts) ≡ []
