@@ -1,0 +1,13 @@
+-- `printing::digit_count`: powers of ten up to the first above the number.
+use Prim.Native.Nat.{◌+◌, ◌-◌, ◌*◌}
+use native.Mathlib.Omega.{arith}
+use Rattle.printing.proofs.Digits.{Counting, counting_start, counting_next, counting_end}
+use borrow.Author.Rules.{rules}
+use Rattle.printing.proofs.digit_count.Given as goal
+
+-- `printing::digit_count`: powers of ten up to the first above the number.
+abbrev pub invariant-loop-power : goal.invariant-loop-power
+invariant-loop-power l = Counting l.n l.count l.power
+
+abbrev pub decreases-loop-power : goal.decreases-loop-power
+decreases-loop-power l = 10 - l.count

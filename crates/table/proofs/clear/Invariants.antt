@@ -1,0 +1,17 @@
+-- `table::clear` makes every word zero: those before `i` are zero, the others as they were.
+use mathlib.Core.Path.{◌≡◌}
+use mathlib.Core.List.{◌++◌, append-nil}
+use Prim.Native.Nat.{◌-◌, ◌≤◌, ◌<◌}
+use native.Mathlib.Omega.{arith}
+use borrow.Author.Fill.{fill_more}
+use borrow.Author.Rules.{rules}
+use lib.ListN.{length, drop, replicate, length-set}
+use lib.Seq.{drop-length}
+use Rattle.table.proofs.clear.Given as goal
+
+-- `table::clear` makes every word zero: those before `i` are zero, the others as they were.
+abbrev pub invariant-loop-i : goal.invariant-loop-i
+invariant-loop-i l = (l.i ≤ length l.initial.words) × (l.words ≡ replicate l.i 0 ++ drop l.i l.initial.words) × (length l.words ≡ length l.initial.words)
+
+abbrev pub decreases-loop-i : goal.decreases-loop-i
+decreases-loop-i l = length l.initial.words - l.i

@@ -1,0 +1,7 @@
+-- `table::item_field`: the word is the field of the item, within its range.
+use Rattle.table.proofs.Access.{item_read}
+use borrow.Author.Rules.{rules}
+use Rattle.table.proofs.item_field.Goals as goal
+
+pub returns : goal.returns
+returns c = item_read c.requires.0 c.args.n c.args.field c.requires.1 c.requires.2 c.item_words-words.ensures.0

@@ -1,0 +1,13 @@
+-- `table::load`: the words of the loads that the stack's two last words point at.
+use native.Mathlib.Omega.{arith}
+use Rattle.table.proofs.Access.{load_room, load_read}
+use borrow.Author.Rules.{rules}
+use Rattle.table.proofs.load.Goals as goal
+
+pub words_from-requires : goal.words_from-requires
+words_from-requires c = omega (arith, load_room c.requires.0 c.requires.1 c.stack_words-words.ensures.0)
+
+pub returns : goal.returns
+returns c =
+    let part = rw (c.as_index-first.ensures.0, c.as_index-count.ensures.0) at c.words_from.ensures.0 in
+    load_read c.requires.0 c.requires.1 c.stack_words-words.ensures.0 c.load_words.ensures.0 part

@@ -1,0 +1,6 @@
+-- `table::load_words`: the loads stand behind the stacks.
+use borrow.Author.Rules.{rules}
+use Rattle.table.proofs.load_words.Goals as goal
+
+pub returns : goal.returns
+returns c = rw c.loads_at.ensures at c.words_from.ensures

@@ -1,0 +1,6 @@
+-- `table::stack_words`: the stacks before it have 8 words each.
+use borrow.Author.Rules.{rules}
+use Rattle.table.proofs.stack_words.Goals as goal
+
+pub returns : goal.returns
+returns c = rw c.stacks_at.ensures at c.words_from.ensures

@@ -1,0 +1,6 @@
+-- `table::words_of_trucks`: they begin where the trucks do.
+use borrow.Author.Rules.{rules}
+use Rattle.table.proofs.words_of_trucks.Goals as goal
+
+pub returns : goal.returns
+returns c = rw c.trucks_at.ensures at c.words_from.ensures
