@@ -12,7 +12,7 @@ ghost use Rattle.ranges.specs.Clashes.{item_at, items_in, clash_place};
 ghost use Rattle.ranges.specs.Ranges.{ranges_between, head_range, item_ranges_up_to, truck_ranges_up_to, row_numbers};
 
 use meaning::Limits;
-use table::fields::{IDE, IH, IL, IS, IW};
+use table::fields::{self, IDE, IH, IL, IW};
 use table::is_listed;
 use table::layout::{ITEM_WORDS, STACK_WORDS};
 
@@ -206,7 +206,7 @@ fn first_of_code(items: &[u32], count: u32, code: u32) -> u32
     let mut passed = 0;
     while passed < count {
         let n = passed + 1;
-        if item_word(items, n, IS) == code {
+        if item_word(items, n, fields::IS) == code {
             return n;
         }
         passed = n;
@@ -241,7 +241,7 @@ pub fn lowest_clash(items: &[u32], count: u32) -> Clash
     let mut clash = Clash::Nowhere;
     let mut n = count;
     while 0 < n {
-        let first = first_of_code(items, count, item_word(items, n, IS));
+        let first = first_of_code(items, count, item_word(items, n, fields::IS));
         if !same_length_and_width(items, n, first) {
             clash = Clash::Between(n, first);
         }

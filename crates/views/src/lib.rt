@@ -13,7 +13,7 @@ ghost use Rattle.views.specs.Views.{position_of, PositionInRange, extent_of, foo
 ghost use Rattle.views.specs.Views.{plant_dock_orders, range_with, range_of, rank_of, plant_docks_from};
 
 use meaning::Limits;
-use table::fields::{IG, IH, IK, IL, IM, IU, IW, NESTING, ORIENTATION, X, Y};
+use table::fields;
 use table::{
     docks, item_field, load, order_in, plant_docks, stack_field, stack_truck, suppliers,
     truck_field,
@@ -89,9 +89,9 @@ pub fn read_position(t: &[u32], limits: Limits, s: usize) -> Position
     ensures { (result ≡ position_of (stack_at (stacks_in limits t.now) s)) × PositionInRange result }
 {
     Position {
-        x: stack_field(t, limits, s, X),
-        y: stack_field(t, limits, s, Y),
-        orientation: stack_field(t, limits, s, ORIENTATION),
+        x: stack_field(t, limits, s, fields::X),
+        y: stack_field(t, limits, s, fields::Y),
+        orientation: stack_field(t, limits, s, fields::ORIENTATION),
     }
 }
 
@@ -136,8 +136,8 @@ pub fn read_footprint(t: &[u32], limits: Limits, position: Position, load: &[u32
         (IW (item (instance_in limits t.now) (get_or load.now 0 0))) }
 {
     let bottom = load[0];
-    let length = item_field(t, limits, bottom, IL);
-    let width = item_field(t, limits, bottom, IW);
+    let length = item_field(t, limits, bottom, fields::IL);
+    let width = item_field(t, limits, bottom, fields::IW);
     footprint_from(position, length, width)
 }
 
@@ -163,9 +163,9 @@ pub fn read_size(t: &[u32], limits: Limits, load: &[u32]) -> Size
     requires { Filled limits t.now × LoadOfItems (instance_in limits t.now) load.now }
     ensures { result ≡ size_of (instance_in limits t.now) load.now }
 {
-    let weight = load_sum(t, limits, load, 0, IM);
-    let heights = load_sum(t, limits, load, 0, IH);
-    let nested = load_sum(t, limits, load, 1, NESTING);
+    let weight = load_sum(t, limits, load, 0, fields::IM);
+    let heights = load_sum(t, limits, load, 0, fields::IH);
+    let nested = load_sum(t, limits, load, 1, fields::NESTING);
     Size {
         weight,
         height: heights - nested,
@@ -202,8 +202,8 @@ pub fn supplier_dock_order(t: &[u32], limits: Limits, truck: u32, n: u32) -> usi
     ensures { (result ≡ order_in (docks_of (truck_numbered (instance_in limits t.now) truck)
         (IU (item (instance_in limits t.now) n))) (IK (item (instance_in limits t.now) n))) × (result ≤ 8) }
 {
-    let supplier = supplier_order(t, limits, truck, item_field(t, limits, n, IU));
-    dock_order(t, limits, truck, supplier, item_field(t, limits, n, IK))
+    let supplier = supplier_order(t, limits, truck, item_field(t, limits, n, fields::IU));
+    dock_order(t, limits, truck, supplier, item_field(t, limits, n, fields::IK))
 }
 
 // The loading order of an item's plant dock.
@@ -212,7 +212,7 @@ pub fn plant_dock_order(t: &[u32], limits: Limits, truck: u32, n: u32) -> usize
     ensures { (result ≡ order_in (truck_numbered (instance_in limits t.now) truck).plant_docks
         (IG (item (instance_in limits t.now) n))) × (result ≤ 8) }
 {
-    order_in(plant_docks(t, limits, truck), item_field(t, limits, n, IG))
+    order_in(plant_docks(t, limits, truck), item_field(t, limits, n, fields::IG))
 }
 
 // The lowest and the highest of some loading orders.
@@ -253,7 +253,7 @@ fn plant_dock_range(t: &[u32], limits: Limits, truck: u32, load: &[u32]) -> Orde
     let mut j = load.len();
     while 0 < j {
         j -= 1;
-        let order = order_in(docks, item_field(t, limits, load[j], IG));
+        let order = order_in(docks, item_field(t, limits, load[j], fields::IG));
         range = including(range, order as u32);
     }
     range
@@ -265,8 +265,8 @@ pub fn read_rank(t: &[u32], limits: Limits, truck: u32, load: &[u32]) -> Rank
     ensures { result ≡ rank_of (instance_in limits t.now) truck load.now }
 {
     let bottom = load[0];
-    let supplier = item_field(t, limits, bottom, IU);
-    let dock = item_field(t, limits, bottom, IK);
+    let supplier = item_field(t, limits, bottom, fields::IU);
+    let dock = item_field(t, limits, bottom, fields::IK);
     let order = supplier_order(t, limits, truck, supplier);
     let range = plant_dock_range(t, limits, truck, load);
     Rank {
@@ -286,7 +286,7 @@ fn has_plant_dock(t: &[u32], limits: Limits, load: &[u32], from: usize, dock: u3
 {
     let mut j = from;
     while j < load.len() {
-        if item_field(t, limits, load[j], IG) == dock {
+        if item_field(t, limits, load[j], fields::IG) == dock {
             return true;
         }
         j += 1;
@@ -304,7 +304,7 @@ pub fn plant_dock_count(t: &[u32], limits: Limits, load: &[u32]) -> u32
     while 0 < j {
         let above = j;
         j -= 1;
-        let dock = item_field(t, limits, load[j], IG);
+        let dock = item_field(t, limits, load[j], fields::IG);
         if !has_plant_dock(t, limits, load, above, dock) {
             count += 1;
         }

@@ -1,0 +1,16 @@
+-- The words from the index on decide: they are distinct where all words are, since those before are listed once only.
+use Prim.Native.Nat.{◌≤◌, ◌-◌, ◌+◌}
+use mathlib.Core.Path.{◌≡◌, refl, sym, ◌∙◌}
+use native.Mathlib.Omega.{arith}
+use lib.ListN.{length, drop}
+use Rattle.meaning.specs.Lists.{distinct}
+use Rattle.ranges.proofs.Scan.{distinct_on, distinct_off, distinct_end}
+use borrow.Author.Rules.{rules}
+use Rattle.ranges.proofs.are_distinct.Given as goal
+
+-- The words from the index on decide: they are distinct where all words are, since those before are listed once only.
+abbrev pub invariant-loop-i : goal.invariant-loop-i
+invariant-loop-i l = (l.i ≤ length l.words) × (distinct (drop l.i l.words) ≡ distinct l.words)
+
+abbrev pub decreases-loop-i : goal.decreases-loop-i
+decreases-loop-i l = length l.words - l.i

@@ -1,0 +1,17 @@
+-- The first item of a code among those that are left is the first among all.
+use mathlib.Core.Path.{◌≡◌, refl, sym, ◌∙◌}
+use Prim.Native.Nat.{◌+◌, ◌-◌, ◌≤◌}
+use native.Mathlib.Omega.{arith}
+use lib.ListN.{drop}
+use borrow.Author.Rules.{rules}
+use Rattle.meaning.specs.Lists.{order_from, order_in}
+use Rattle.table.proofs.Order.{order_found, order_passed, order_none}
+use Rattle.ranges.proofs.Clashes.{codes, codes_counted, code_there}
+use Rattle.ranges.proofs.first_of_code.Given as goal
+
+-- The first item of a code among those that are left is the first among all.
+abbrev pub invariant-loop-passed : goal.invariant-loop-passed
+invariant-loop-passed l = (l.passed ≤ l.count) × (order_from (l.passed + 1) l.code (drop l.passed (codes l.items l.count)) ≡ order_in (codes l.items l.count) l.code)
+
+abbrev pub decreases-loop-passed : goal.decreases-loop-passed
+decreases-loop-passed l = l.count - l.passed

@@ -1,0 +1,24 @@
+-- Going down, a clash that is found is lower than all found before; where none is found, what was lowest stays so.
+use mathlib.Core.Logic.{⊎_elim}
+use native.Mathlib.Omega.{arith}
+use borrow.Author.Rules.{rules}
+use Rattle.ranges.proofs.Clashes.{LowestAbove, first_within, none_yet, all_asked, clash_here, no_clash_here}
+use Rattle.ranges.proofs.lowest_clash.Goals as goal
+
+pub loop-n-init : goal.loop-n-init
+loop-n-init c = none_yet c.args.items.now c.args.count
+
+pub same_length_and_width-requires : goal.same_length_and_width-requires
+same_length_and_width-requires c =
+    let within = first_within c.loop-n.invariant c.loop-n-test.true c.item_word.ensures c.first_of_code-first.ensures in
+    omega (arith, within.0, within.1, c.loop-n.invariant.most)
+
+pub loop-n-preserved : goal.loop-n-preserved
+loop-n-preserved c =
+    let here = clash_here c.loop-n.invariant c.loop-n-test.true c.item_word.ensures c.first_of_code-first.ensures in
+    let none = no_clash_here c.loop-n.invariant c.loop-n-test.true c.item_word.ensures c.first_of_code-first.ensures in
+    let same = c.same_length_and_width.ensures in
+    ⊎_elim (λ w. rw w.1 (here same w.0.taken)) (λ w. rw w.1 (none same w.0.left)) c.if-not-same_length_and_width.branch
+
+pub returns : goal.returns
+returns c = all_asked c.loop-n.invariant c.loop-n-test.false

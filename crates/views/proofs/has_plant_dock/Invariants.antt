@@ -1,0 +1,15 @@
+-- `views::has_plant_dock`: the dock is among all from `from` on exactly when it is among those that are left.
+use Prim.Native.Nat.{◌-◌}
+use native.Mathlib.Omega.{arith}
+use lib.ListN.{length}
+use Rattle.meaning.specs.Table.{instance_in}
+use Rattle.views.proofs.Loads.{Passed, passed_start, passed_found, passed_more, passed_end}
+use borrow.Author.Rules.{rules}
+use Rattle.views.proofs.has_plant_dock.Given as goal
+
+-- `views::has_plant_dock`: the dock is among all from `from` on exactly when it is among those that are left.
+abbrev pub invariant-loop-j : goal.invariant-loop-j
+invariant-loop-j l = Passed (instance_in l.limits l.t) l.load l.dock l.from l.j
+
+abbrev pub decreases-loop-j : goal.decreases-loop-j
+decreases-loop-j l = length l.load - l.j

@@ -1,0 +1,17 @@
+-- `views::load_sum`: what is summed and what is still to come make the whole sum.
+use Prim.Native.Nat.{◌-◌}
+use native.Mathlib.Omega.{arith}
+use lib.ListN.{length, get_or}
+use Rattle.meaning.specs.Model.{item}
+use Rattle.meaning.specs.Table.{instance_in}
+use Rattle.table.specs.Filled.{item_most}
+use Rattle.views.proofs.Loads.{Summed, summed_start, summed_more, summed_room, summed_end, item_ends}
+use borrow.Author.Rules.{rules}
+use Rattle.views.proofs.load_sum.Given as goal
+
+-- `views::load_sum`: what is summed and what is still to come make the whole sum.
+abbrev pub invariant-loop-j : goal.invariant-loop-j
+invariant-loop-j l = Summed (λ k. get_or (item (instance_in l.limits l.t) k) l.field 0) (item_most l.field) l.load l.from l.sum l.j
+
+abbrev pub decreases-loop-j : goal.decreases-loop-j
+decreases-loop-j l = length l.load - l.j

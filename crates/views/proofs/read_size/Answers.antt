@@ -1,0 +1,13 @@
+-- `views::read_size`: the height is a difference of two sums, and no item nests deeper than it is high.
+use mathlib.Core.Path.{refl}
+use Rattle.views.specs.Views.{size_of}
+use Rattle.views.proofs.Stacks.{nested_less}
+use borrow.Author.Rules.{rules}
+use Rattle.views.proofs.read_size.Goals as goal
+
+pub overflow_sub-result : goal.overflow_sub-result
+overflow_sub-result c = nested_less c.requires.0 c.requires.1 c.load_sum-heights.ensures.0 c.load_sum-nested.ensures.0
+
+pub returns : goal.returns
+unfolding size_of
+returns c = rw (c.load_sum-weight.ensures.0, c.load_sum-heights.ensures.0, c.load_sum-nested.ensures.0) refl

@@ -1,0 +1,6 @@
+-- `views::stack_truck_field`: the field of the truck whose number the stack has.
+use borrow.Author.Rules.{rules}
+use Rattle.views.proofs.stack_truck_field.Goals as goal
+
+pub returns : goal.returns
+returns c = rw c.stack_truck.ensures.0 at c.truck_field.ensures
