@@ -4,6 +4,7 @@ use native.Mathlib.Omega.{arith}
 use borrow.Author.Rules.{rules}
 use Rattle.ranges.proofs.Clashes.{LowestAbove, first_within, none_yet, all_asked, clash_here, no_clash_here}
 use Rattle.ranges.proofs.lowest_clash.Goals as goal
+use Rattle.ranges.proofs.lowest_clash.Goals.{then-not-same_length_and_width, else-not-same_length_and_width}
 
 pub loop-n-init : goal.loop-n-init
 loop-n-init c = none_yet c.args.items.now c.args.count
@@ -18,7 +19,10 @@ loop-n-preserved c =
     let here = clash_here c.loop-n.invariant c.loop-n-test.true c.item_word.ensures c.first_of_code-first.ensures in
     let none = no_clash_here c.loop-n.invariant c.loop-n-test.true c.item_word.ensures c.first_of_code-first.ensures in
     let same = c.same_length_and_width.ensures in
-    ⊎_elim (λ w. rw w.1 (here same w.0.taken)) (λ w. rw w.1 (none same w.0.left)) c.if-not-same_length_and_width.branch
+    elim c.if-not-same_length_and_width.branch [
+      then-not-same_length_and_width w ↦ rw w.clash-is (here same w.if-not-same_length_and_width.true-raw)
+    | else-not-same_length_and_width w ↦ rw w.clash-is (none same w.if-not-same_length_and_width.false-raw)
+    ]
 
 pub returns : goal.returns
 returns c = all_asked c.loop-n.invariant c.loop-n-test.false

@@ -1,0 +1,23 @@
+-- `listing::write_items`: the items from the next one on are still to be written.
+use mathlib.Core.Path.{◌≡◌, ◌∙◌}
+use mathlib.Core.List.{List, []}
+use Prim.Native.Nat.{ℕ, ◌+◌, ◌-◌, ◌<◌}
+use native.Mathlib.Omega.{arith}
+use lib.ListN.{length, get_or}
+use Rattle.meaning.specs.Model.{Item}
+use Rattle.meaning.specs.Reorder.{ended}
+use Rattle.meaning.specs.Print.{printed_line}
+use Rattle.meaning.specs.Table.{instance_in}
+use Rattle.printing.proofs.Progress.{Listing, listing_start, listing_lent, listing_next, listing_end}
+use Rattle.listing.proofs.Lines.{line_room, line_wrote, numbered}
+use borrow.Author.Rules.{rules}
+use Rattle.listing.proofs.write_items.Given as goal
+
+abbrev line : List ℕ → List ℕ
+line ns = ended (printed_line "item=" ns)
+
+abbrev pub invariant-loop-n : goal.invariant-loop-n
+invariant-loop-n l = Listing line (instance_in l.limits l.t).items l.initial.out l.out l.at l.n
+
+abbrev pub decreases-loop-n : goal.decreases-loop-n
+decreases-loop-n l = l.count - l.n
