@@ -1,0 +1,18 @@
+-- Supplier after supplier: those whose docks are a list behind its count do not decide any more.
+use mathlib.Core.Path.{◌≡◌, ap, ap₂, ◌∙◌}
+use mathlib.Core.Bool.{◌&&◌}
+use Prim.Native.Nat.{◌+◌, ◌-◌, ◌*◌, ◌≤◌}
+use native.Mathlib.Omega.{arith}
+use lib.ListN.{get_or, take, drop}
+use Rattle.meaning.specs.Lists.{up_from}
+use Rattle.stored.specs.Parts.{entries_stored, docks_stored, zeros}
+use Rattle.stored.proofs.Scan.{Passed, passed_none, fell, stood, place_passed, place_failed, places_passed, rest_lent}
+use borrow.Author.Rules.{rules}
+use Rattle.stored.proofs.docks_stored.Given as goal
+
+-- Supplier after supplier: those whose docks are a list behind its count do not decide any more.
+abbrev pub invariant-loop-k : goal.invariant-loop-k
+invariant-loop-k l = (l.k ≤ l.suppliers) × Passed (λ j. entries_stored (get_or l.counts j 0) (take 8 (drop (8 * j) l.rows))) (up_from 0 l.suppliers) l.k
+
+abbrev pub decreases-loop-k : goal.decreases-loop-k
+decreases-loop-k l = l.suppliers - l.k

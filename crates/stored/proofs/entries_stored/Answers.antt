@@ -1,0 +1,20 @@
+-- Entries of a line, or words that are none.
+use native.Mathlib.Omega.{arith}
+use Rattle.stored.proofs.Entries.{entries_unfit, entries_fit}
+use borrow.Author.Rules.{rules}
+use Rattle.stored.proofs.entries_stored.Goals as goal
+
+pub returns-then-n-eq0 : goal.returns-then-n-eq0
+returns-then-n-eq0 c =
+    let index = c.as_index-n.ensures in
+    entries_unfit c.args.count c.args.words.now (λ h. absurd (omega (arith, h.0, index.0)))
+
+pub returns-then-words-n : goal.returns-then-words-n
+returns-then-words-n c =
+    let index = c.as_index-n.ensures in
+    entries_unfit c.args.count c.args.words.now (λ h. absurd (omega (arith, h.1, index.0)))
+
+pub returns : goal.returns
+returns c =
+    entries_fit c.args.count c.args.words.now c.as_index-n.ensures.0 (omega arith) (omega arith) c.are_identifiers.ensures
+    c.are_zero.ensures

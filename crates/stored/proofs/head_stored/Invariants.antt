@@ -1,0 +1,18 @@
+-- Number after number: those in range do not decide any more.
+use mathlib.Core.Path.{◌≡◌, ap, ◌∙◌}
+use Prim.Native.Nat.{◌-◌, ◌≤◌}
+use native.Mathlib.Omega.{arith}
+use lib.ListN.{get_or, drop}
+use Rattle.meaning.specs.Lists.{between, up_from}
+use Rattle.ranges.specs.Ranges.{head_range}
+use Rattle.stored.specs.Parts.{head_stored, zeros}
+use Rattle.stored.proofs.Scan.{Passed, passed_none, fell, stood, place_passed, place_failed, places_passed, rest_lent}
+use borrow.Author.Rules.{rules}
+use Rattle.stored.proofs.head_stored.Given as goal
+
+-- Number after number: those in range do not decide any more.
+abbrev pub invariant-loop-place : goal.invariant-loop-place
+invariant-loop-place l = (l.place ≤ 6) × Passed (λ k. between (head_range l.limits k).low (head_range l.limits k).high (get_or l.words k 0)) (up_from 0 6) l.place
+
+abbrev pub decreases-loop-place : goal.decreases-loop-place
+decreases-loop-place l = 6 - l.place
