@@ -1,0 +1,13 @@
+-- No stack passed so far is on, so the departure counts exactly where one of those left is.
+use mathlib.Core.Path.{refl}
+use Prim.Native.Nat.{◌-◌}
+use borrow.Author.Rules.{rules}
+use Rattle.axles.proofs.Places.{NoneBefore, none_on, on_here, none_here}
+use Rattle.axles.proofs.departure_counts.Given as goal
+
+-- No stack passed so far is on, so the departure counts exactly where one of those left is.
+abbrev pub invariant-loop-k : goal.invariant-loop-k
+invariant-loop-k l = NoneBefore l.rows l.departure l.initial.k l.k l.end
+
+abbrev pub decreases-loop-k : goal.decreases-loop-k
+decreases-loop-k l = l.end - l.k

@@ -1,0 +1,55 @@
+-- Both sums are those of the places from k on, which are within the bounds of all, so they fit.
+use Prim.Native.Nat.{◌+◌, ◌-◌}
+use native.Mathlib.Omega.{arith}
+use lib.IntN.{◌+ℤ◌}
+use mir.Syntax.{w64}
+use mir.Val.{SFits, to_z, of_z}
+use mir.Facts.{to_z-of_z}
+use Rattle.axles.proofs.Signed.{in_range_lem, stored}
+use Rattle.axles.proofs.Places.{SumsFrom, sums_start, sums_more, sums_end, weight_size, levers_size}
+use borrow.Author.Rules.{rules}
+use Rattle.axles.proofs.sums_on.Goals as goal
+
+pub loop-k-init : goal.loop-k-init
+loop-k-init c = sums_start c.requires.0.ordered
+
+pub term_of-term-requires : goal.term_of-term-requires
+term_of-term-requires c = (search rules, c.requires.0.each (c.loop-k.k - 1) (omega (arith, c.loop-k.invariant.weight.upto)), c.requires.1)
+
+pub overflow_add-weight : goal.overflow_add-weight
+overflow_add-weight c =
+    let more : 
+    
+    SumsFrom c.args.rows.now c.args.departure c.args.twice c.args.on.start (c.loop-k.k - 1) c.args.on.end (c.term_of-term.result.weight + c.loop-k.weight)
+    (to_z w64 (of_z w64 c.term_of-term.result.levers) +ℤ to_z w64 c.loop-k.levers-bits) =
+        
+        let fits : SFits w64 c.term_of-term.result.levers = search rules in
+        sums_more c.loop-k.invariant c.loop-k-test.true c.term_of-term.ensures.0 (stored fits c.term_of-term.ensures.1) in
+    let m = more.weight in
+    omega (arith, m.is, weight_size c.requires.0 c.args.departure _ m.upto)
+
+pub overflow_add-levers : goal.overflow_add-levers
+overflow_add-levers c =
+    let more : 
+    
+    SumsFrom c.args.rows.now c.args.departure c.args.twice c.args.on.start (c.loop-k.k - 1) c.args.on.end (c.term_of-term.result.weight + c.loop-k.weight)
+    (to_z w64 (of_z w64 c.term_of-term.result.levers) +ℤ to_z w64 c.loop-k.levers-bits) =
+        
+        let fits : SFits w64 c.term_of-term.result.levers = search rules in
+        sums_more c.loop-k.invariant c.loop-k-test.true c.term_of-term.ensures.0 (stored fits c.term_of-term.ensures.1) in
+    let m = more.levers in
+    rw m.is (in_range_lem _ (levers_size c.requires.0 c.args.departure _ m.upto c.args.twice c.requires.1) tt)
+
+pub loop-k-preserved : goal.loop-k-preserved
+loop-k-preserved c =
+    let more : 
+    
+    SumsFrom c.args.rows.now c.args.departure c.args.twice c.args.on.start (c.loop-k.k - 1) c.args.on.end (c.term_of-term.result.weight + c.loop-k.weight)
+    (to_z w64 (of_z w64 c.term_of-term.result.levers) +ℤ to_z w64 c.loop-k.levers-bits) =
+        
+        let fits : SFits w64 c.term_of-term.result.levers = search rules in
+        sums_more c.loop-k.invariant c.loop-k-test.true c.term_of-term.ensures.0 (stored fits c.term_of-term.ensures.1) in
+    rw (to_z-of_z {w = w64} (add-levers c)) more
+
+pub returns : goal.returns
+returns c = sums_end c.loop-k.invariant c.loop-k-test.false

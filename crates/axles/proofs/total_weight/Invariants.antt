@@ -1,0 +1,16 @@
+-- The sum is that of the places from k on, which is within the bound of all, so it fits.
+use mathlib.Core.Path.{refl, ap₂}
+use Prim.Native.Nat.{◌+◌, ◌-◌}
+use native.Mathlib.Omega.{arith}
+use borrow.Author.Rules.{rules}
+use Rattle.meaning.specs.Lists.{sum}
+use Rattle.axles.specs.Weights.{weight_of}
+use Rattle.axles.proofs.Places.{SumFrom, sum_start, sum_more, sum_end}
+use Rattle.axles.proofs.total_weight.Given as goal
+
+-- The sum is that of the places from k on, which is within the bound of all, so it fits.
+abbrev pub invariant-loop-k : goal.invariant-loop-k
+invariant-loop-k l = SumFrom (weight_of l.rows) l.start l.k l.initial.k l.weight
+
+abbrev pub decreases-loop-k : goal.decreases-loop-k
+decreases-loop-k l = l.k

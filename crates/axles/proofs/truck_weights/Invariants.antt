@@ -1,0 +1,23 @@
+-- The loop keeps the lowest places of the departures after the current one; all stacks are on one used truck.
+use mathlib.Core.Path.{◌≡◌, ap, ◌∙◌}
+use native.Mathlib.Omega.{arith}
+use lib.ListN.{length}
+use Rattle.meaning.specs.Measures.{UsedTruck, used_by}
+use Rattle.meaning.specs.Table.{instance_in, stacks_in}
+use Rattle.table.specs.Filled.{TruckNumber}
+use Rattle.manifest.specs.Manifest.{manifest_at}
+use Rattle.axles.specs.Weights.{BoundedRows, BoundedAxles, middle_under, rear_under}
+use Rattle.manifest.proofs.Reading.{word_is, truck_is}
+use Rattle.axles.proofs.Rows.{rows_bounded, axles_bounded}
+use Rattle.axles.proofs.Departures.{AxleFrom, axle_start, axle_more, lowest_are}
+use borrow.Author.Rules.{rules}
+use Rattle.axles.proofs.truck_weights.Given as goal
+
+-- The loop keeps the lowest places of the departures after the current one; all stacks are on one used truck.
+abbrev pub invariant-loop-departure : goal.invariant-loop-departure
+invariant-loop-departure l = let u : UsedTruck = record { l.truck = l.truck; l.copy = l.copy } in
+    BoundedRows l.rows l.on × BoundedAxles l.axles × AxleFrom middle_under l.rows l.on l.axles u l.initial.departure l.departure l.middle
+    × AxleFrom rear_under l.rows l.on l.axles u l.initial.departure l.departure l.rear
+
+abbrev pub decreases-loop-departure : goal.decreases-loop-departure
+decreases-loop-departure l = l.departure
