@@ -13,17 +13,15 @@ use Rattle.lines.proofs.identifiers_line.Goals as goal
 
 pub returns : goal.returns
 returns c =
-    let promised =
-        let room = length c.args.out.now in
-        let many = entries_of c.stored_line-stored.result in
-        let all : c.entries-count.result - 0 ≡ many = omega (arith, c.entries-count.ensures) in
-        rw c.judged_entries.ensures (
-          λ k b.
-              let f = identifiers_line k room in
-              judged_entries c.stored_line-stored.ensures f (padded room) (c.stored_line-stored.ensures.says f b refl (omega arith) (refuses_identifiers k room)) c.are_identifiers-in_range.result
-              (λ has. rw all at c.are_identifiers-in_range.ensures)
-              (λ has. zeros_behind_lem room many _ (omega (arith, c.stored_line-stored.ensures.room)) (omega arith) (c.stored_line-stored.ensures.behind has ∙ ap (drop many) c.clear.ensures))
-              (omega arith),
-          omega (arith, judged_room c.stored_line-stored.ensures c.are_identifiers-in_range.result),
-        )
-    in record { says = promised.0; room = promised.1 }
+    let room = length c.args.out.now in
+    let many = entries_of c.stored_line-stored.result in
+    let all : c.entries-count.result - 0 ≡ many = omega (arith, c.entries-count.ensures) in
+    record {
+      says = rw c.judged_entries.ensures (λ k b.
+          let f = identifiers_line k room in
+          judged_entries c.stored_line-stored.ensures f (padded room) (c.stored_line-stored.ensures.says f b refl (omega arith) (refuses_identifiers k room)) c.are_identifiers-in_range.result
+          (λ has. rw all at c.are_identifiers-in_range.ensures)
+          (λ has. zeros_behind_lem room many _ (omega (arith, c.stored_line-stored.ensures.room)) (omega arith) (c.stored_line-stored.ensures.behind has ∙ ap (drop many) c.clear.ensures))
+          (omega arith));
+      room = rw c.judged_entries.ensures (omega (arith, judged_room c.stored_line-stored.ensures c.are_identifiers-in_range.result));
+    }

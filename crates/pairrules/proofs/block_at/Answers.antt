@@ -1,0 +1,11 @@
+-- `pairrules::block_at`: a block is that of each stack in it.
+use borrow.Author.Rules.{rules}
+use Rattle.pairrules.proofs.Partners.{block_kept}
+use Rattle.pairrules.proofs.block_at.Goals as goal
+
+-- `pairrules::block_at`: a block is that of each stack in it.
+pub returns-then-on-a : goal.returns-then-on-a
+returns-then-on-a c = block_kept c.requires.2 c.if-on-a.true
+
+pub returns : goal.returns
+returns c = record { before = c.truck_start.ensures; behind = c.truck_end.ensures }

@@ -1,0 +1,28 @@
+-- `pairrules::keeps_single_pair`: the stacks passed keep the rule with those behind them, and in the end that is every pair.
+use mathlib.Core.Path.{◌≡◌}
+use mathlib.Core.Bool.{true}
+use Prim.Native.Nat.{◌+◌, ◌-◌}
+use native.Mathlib.Omega.{arith}
+use borrow.Author.Rules.{rules}
+use Rattle.meaning.specs.Rules.{single_pair}
+use Rattle.meaning.specs.Table.{instance_in, stacks_in}
+use Rattle.meaning.proofs.Tests.{iff_trans}
+use Rattle.manifest.specs.Manifest.{manifest_at}
+use Rattle.pairrules.specs.PairRules.{Each}
+use Rattle.pairrules.proofs.Places.{Upto, upto_start, upto_kept, upto_broken, upto_all}
+use Rattle.pairrules.proofs.Pairs.{single_block}
+use Rattle.pairrules.proofs.keeps_single_pair.Goals as goal
+
+pub loop-a-init : goal.loop-a-init
+loop-a-init c = upto_start (omega (arith, c.requires.1.some))
+
+pub returns-then-not-is_single_behind : goal.returns-then-not-is_single_behind
+returns-then-not-is_single_behind c =
+    iff_trans (upto_broken c.loop-a.invariant c.loop-a-test.true c.is_single_behind.ensures c.if-not-is_single_behind.true-raw)
+    (single_block (instance_in c.args.limits c.args.t.now) c.requires.1)
+
+pub loop-a-preserved : goal.loop-a-preserved
+loop-a-preserved c = upto_kept c.loop-a.invariant c.loop-a-test.true c.is_single_behind.ensures c.if-not-is_single_behind.false-raw
+
+pub returns : goal.returns
+returns c = iff_trans (upto_all c.loop-a.invariant c.loop-a-test.false) (single_block (instance_in c.args.limits c.args.t.now) c.requires.1)

@@ -1,0 +1,21 @@
+-- `pairrules::keeps_single_pair`: the stacks passed keep the rule with those behind them, and in the end that is every pair.
+use mathlib.Core.Path.{◌≡◌}
+use mathlib.Core.Bool.{true}
+use Prim.Native.Nat.{◌+◌, ◌-◌}
+use native.Mathlib.Omega.{arith}
+use borrow.Author.Rules.{rules}
+use Rattle.meaning.specs.Rules.{single_pair}
+use Rattle.meaning.specs.Table.{instance_in, stacks_in}
+use Rattle.meaning.proofs.Tests.{iff_trans}
+use Rattle.manifest.specs.Manifest.{manifest_at}
+use Rattle.pairrules.specs.PairRules.{Each}
+use Rattle.pairrules.proofs.Places.{Upto, upto_start, upto_kept, upto_broken, upto_all}
+use Rattle.pairrules.proofs.Pairs.{single_block}
+use Rattle.pairrules.proofs.keeps_single_pair.Given as goal
+
+-- `pairrules::keeps_single_pair`: the stacks passed keep the rule with those behind them, and in the end that is every pair.
+abbrev pub invariant-loop-a : goal.invariant-loop-a
+invariant-loop-a l = Upto (λ j. Each (λ k. single_pair (instance_in l.limits l.t) (manifest_at (stacks_in l.limits l.t) j) (manifest_at (stacks_in l.limits l.t) k) ≡ true) (j + 1) l.end) l.initial.a l.end l.a
+
+abbrev pub decreases-loop-a : goal.decreases-loop-a
+decreases-loop-a l = l.end - l.a

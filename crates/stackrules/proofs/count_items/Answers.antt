@@ -1,0 +1,32 @@
+-- `stackrules::count_items`: from the last stack to the first, each adds its items to the counts of the stacks behind it.
+use mathlib.Core.Path.{◌≡◌, refl}
+use Prim.Native.Nat.{◌+◌, ◌-◌, ◌≤◌}
+use native.Mathlib.Omega.{arith}
+use borrow.Author.Rules.{rules}
+use lib.ListN.{length, drop}
+use Rattle.meaning.specs.Table.{instance_in, stacks_in}
+use Rattle.stackrules.specs.StackRules.{Tally}
+use Rattle.stackrules.proofs.Tally.{tally_none, tally_more, countable}
+use Rattle.stackrules.proofs.count_items.Goals as goal
+
+pub loop-s-init : goal.loop-s-init
+loop-s-init c =
+    let p = stacks_in c.args.limits c.args.t.now in
+    (omega arith, refl, tally_none p c.requires.1 c.clear.ensures c.stack_count-s.ensures.0)
+
+pub count_load-requires : goal.count_load-requires
+count_load-requires c = countable c.loop-s.s c.requires.0 c.load.ensures.1 c.loop-s.invariant.2
+
+pub loop-s-preserved : goal.loop-s-preserved
+loop-s-preserved c =
+    let p = stacks_in c.args.limits c.args.t.now in
+    let back : c.loop-s.s - 1 + 1 ≡ c.loop-s.s = omega arith in (
+      omega arith,
+      omega arith,
+      tally_more p (omega arith) (rw back c.loop-s.invariant.2) (omega arith) c.load.ensures.0 c.count_load.ensures,
+    )
+
+pub returns : goal.returns
+returns c =
+    let none : c.loop-s.s ≡ 0 = omega arith in
+    rw none at c.loop-s.invariant.2

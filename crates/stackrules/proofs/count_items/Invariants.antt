@@ -1,0 +1,18 @@
+-- `stackrules::count_items`: from the last stack to the first, each adds its items to the counts of the stacks behind it.
+use mathlib.Core.Path.{◌≡◌, refl}
+use Prim.Native.Nat.{◌+◌, ◌-◌, ◌≤◌}
+use native.Mathlib.Omega.{arith}
+use borrow.Author.Rules.{rules}
+use lib.ListN.{length, drop}
+use Rattle.meaning.specs.Table.{instance_in, stacks_in}
+use Rattle.stackrules.specs.StackRules.{Tally}
+use Rattle.stackrules.proofs.Tally.{tally_none, tally_more, countable}
+use Rattle.stackrules.proofs.count_items.Given as goal
+
+-- `stackrules::count_items`: from the last stack to the first, each adds its items to the counts of the stacks behind it.
+abbrev pub invariant-loop-s : goal.invariant-loop-s
+invariant-loop-s l = let p = stacks_in l.limits l.t in
+    (l.s ≤ length p) × (length l.times ≡ length l.initial.times) × Tally (length (instance_in l.limits l.t).items) (drop l.s p) l.times
+
+abbrev pub decreases-loop-s : goal.decreases-loop-s
+decreases-loop-s l = l.s

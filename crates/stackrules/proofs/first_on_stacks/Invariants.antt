@@ -1,0 +1,19 @@
+-- `stackrules::first_on_stacks`: the breach so far is that of the stacks so far, in the end of all.
+use mathlib.Core.List.{[], ◌∷◌}
+use Prim.Native.Nat.{◌-◌}
+use borrow.Author.Rules.{rules}
+use Rattle.meaning.specs.Model.{Stack}
+use Rattle.meaning.specs.Table.{instance_in, stacks_in}
+use Rattle.table.specs.Filled.{no_stack}
+use Rattle.rules.specs.LoadingRules.{rule_places}
+use Rattle.manifest.specs.Manifest.{in_manifest}
+use Rattle.manifest.proofs.Order.{manifest_length, manifest_at_lem}
+use Rattle.stackrules.proofs.First.{FirstFrom, from_none, from_more, from_end, first_same, lowest_listed, manifest_known}
+use Rattle.stackrules.proofs.first_on_stacks.Given as goal
+
+-- `stackrules::first_on_stacks`: the breach so far is that of the stacks so far, in the end of all.
+abbrev pub invariant-loop-k : goal.invariant-loop-k
+invariant-loop-k l = FirstFrom (λ (s : Stack) rule. rule_places rule (instance_in l.limits l.t) (s ∷ [])) (in_manifest (stacks_in l.limits l.t)) l.k l.first
+
+abbrev pub decreases-loop-k : goal.decreases-loop-k
+decreases-loop-k l = l.k

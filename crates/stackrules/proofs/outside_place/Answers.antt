@@ -1,0 +1,15 @@
+-- `stackrules::outside_place`: the tests compare the extents and the limits of rule 22.
+use native.Mathlib.Omega.{arith}
+use borrow.Author.Rules.{rules}
+use Rattle.stackrules.proofs.Stacks.{stack_there, truck_there, outside_is}
+use Rattle.stackrules.proofs.outside_place.Goals as goal
+
+-- `stackrules::outside_place`: the tests compare the extents and the limits of rule 22.
+pub truck_field-requires-3 : goal.truck_field-requires-3
+truck_field-requires-3 c = (c.requires.0.filled, truck_there c.requires.0 c.requires.1 c.row_word-truck.ensures, omega arith)
+
+pub returns : goal.returns
+returns c =
+    outside_is c.requires.0 c.requires.1 c.row_word-number.ensures c.stack_at.ensures c.load.ensures.0 c.row_word-truck.ensures
+    c.footprint_at-ground.ensures c.read_size-size.ensures c.truck_field.ensures.0 c.truck_field-2.ensures.0
+    c.truck_field-3.ensures.0 c.exceeded_side-side.ensures c.place_if.ensures

@@ -1,0 +1,10 @@
+-- `stackrules::top_heavy_place`: the test compares the weight and the limit of rule 19.
+use borrow.Author.Rules.{rules}
+use Rattle.stackrules.proofs.Stacks.{stack_there, truck_there, top_heavy_is}
+use Rattle.stackrules.proofs.top_heavy_place.Goals as goal
+
+-- `stackrules::top_heavy_place`: the test compares the weight and the limit of rule 19.
+pub returns : goal.returns
+returns c =
+    top_heavy_is c.requires.0 c.requires.1 c.row_word-2.ensures c.stack_at.ensures c.load-items.ensures.0
+    c.load_sum-above.ensures.0 c.row_word.ensures c.truck_field.ensures.0 c.place_if.ensures
