@@ -1,6 +1,6 @@
 -- Both axles are tested by H and by the weight that is on; whether the departure counts matters only where one does not hold.
 use mathlib.Core.Path.{◌≡◌, refl, ap, ap₂, ◌∙◌}
-use mathlib.Core.Bool.{not, ◌&&◌, and_false}
+use mathlib.Core.Bool.{not, ◌&&◌, and-false}
 use borrow.Author.Rules.{rules}
 use lib.IntN.{ℤ}
 use mir.Syntax.{w64}
@@ -49,7 +49,7 @@ returns-then-middle-rear c =
         ) in
     let both = (and_reads c.middle_holds-middle.result c.rear_holds-rear.result).0 c.if-middle-rear.true in
     let are = held in
-    (rw (← are.0, both.0, and_false) refl, rw (← are.1, both.1, and_false) refl)
+    (rw (← are.0, both.0, and-false) refl, rw (← are.1, both.1, and-false) refl)
 
 pub returns : goal.returns
 returns c =

@@ -8,7 +8,7 @@ pub overflow_sub-result : goal.overflow_sub-result
 overflow_sub-result c =
     let before : Amount =
         minus (unsigned c.requires.3 tt) (unsigned c.requires.1 tt) tt in
-    before.ranges
+    before.fits
 
 pub overflow_sub-result-2 : goal.overflow_sub-result-2
 overflow_sub-result-2 c =
@@ -16,7 +16,7 @@ overflow_sub-result-2 c =
         minus (unsigned c.requires.3 tt) (unsigned c.requires.1 tt) tt in
     let distance : Amount =
         minus before (unsigned c.requires.2 tt) tt in
-    distance.ranges
+    distance.fits
 
 pub overflow_mul-result : goal.overflow_mul-result
 overflow_mul-result c =
@@ -26,7 +26,7 @@ overflow_mul-result c =
         minus before (unsigned c.requires.2 tt) tt in
     let product : Amount =
         times (unsigned c.requires.0 tt) distance tt in
-    product.ranges
+    product.fits
 
 pub returns : goal.returns
 unfolding lever_by

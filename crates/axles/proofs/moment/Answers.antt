@@ -7,7 +7,7 @@ pub overflow_mul-result : goal.overflow_mul-result
 overflow_mul-result c =
     let twice : Amount =
         times (literal 2 tt) (unsigned c.requires.1.em tt) tt in
-    twice.ranges
+    twice.fits
 
 pub overflow_mul-result-2 : goal.overflow_mul-result-2
 overflow_mul-result-2 c =
@@ -15,7 +15,7 @@ overflow_mul-result-2 c =
         times (literal 2 tt) (unsigned c.requires.1.em tt) tt in
     let trailer : Amount =
         times twice (unsigned c.requires.1.ejcr tt) tt in
-    trailer.ranges
+    trailer.fits
 
 pub overflow_add-result : goal.overflow_add-result
 overflow_add-result c =
@@ -25,7 +25,7 @@ overflow_add-result c =
         times twice (unsigned c.requires.1.ejcr tt) tt in
     let all : Amount =
         plus (given c.ranges.levers c.requires.0) trailer tt in
-    all.ranges
+    all.fits
 
 pub returns : goal.returns
 returns c =

@@ -4,45 +4,65 @@ use Rattle.axles.proofs.Signed.{Amount, unsigned, literal, given, plus, minus, t
 use borrow.Author.Rules.{rules}
 use Rattle.axles.proofs.rear_holds.Goals as goal
 
-abbrev Read : Type 0
-Read = tie.After-struct-known3
-
-abbrev entry : Read → tie.Start
-entry c = c.before.before.before
-
-abbrev twice : Read → Amount
-twice c = times (literal 2 tt) (unsigned (entry c).requires.2.ejhr tt) tt
-
-abbrev loaded : Read → Amount
-loaded c = plus (unsigned (entry c).requires.1 tt) (unsigned (entry c).requires.2.em tt) tt
-
-abbrev turned : Read → Amount
-turned c = times (twice c) (loaded c) tt
-
-abbrev rest : Read → Amount
-rest c = minus (turned c) (given (entry c).ranges.h (entry c).requires.0) tt
-
-abbrev most : Read → Amount
-most c = times (twice c) (unsigned (entry c).requires.2.emmr tt) tt
-
 pub overflow_mul-result : goal.overflow_mul-result
-overflow_mul-result c = (twice c).ranges
+overflow_mul-result c =
+    let twice : Amount =
+        times (literal 2 tt) (unsigned c.requires.2.ejhr tt) tt in
+    twice.fits
 
 pub overflow_add-result : goal.overflow_add-result
-overflow_add-result c = (loaded c).ranges
+overflow_add-result c =
+    let loaded : Amount =
+        plus (unsigned c.requires.1 tt) (unsigned c.requires.2.em tt) tt in
+    loaded.fits
 
 pub overflow_mul-result-2 : goal.overflow_mul-result-2
-overflow_mul-result-2 c = (turned c).ranges
+overflow_mul-result-2 c =
+    let twice : Amount =
+        times (literal 2 tt) (unsigned c.requires.2.ejhr tt) tt in
+    let loaded : Amount =
+        plus (unsigned c.requires.1 tt) (unsigned c.requires.2.em tt) tt in
+    let turned : Amount =
+        times twice loaded tt in
+    turned.fits
 
 pub overflow_sub-result : goal.overflow_sub-result
-overflow_sub-result c = (rest c).ranges
+overflow_sub-result c =
+    let twice : Amount =
+        times (literal 2 tt) (unsigned c.requires.2.ejhr tt) tt in
+    let loaded : Amount =
+        plus (unsigned c.requires.1 tt) (unsigned c.requires.2.em tt) tt in
+    let turned : Amount =
+        times twice loaded tt in
+    let rest : Amount =
+        minus turned (given c.ranges.h c.requires.0) tt in
+    rest.fits
 
 pub overflow_mul-result-3 : goal.overflow_mul-result-3
-overflow_mul-result-3 c = (twice c).ranges
+overflow_mul-result-3 c =
+    let twice : Amount =
+        times (literal 2 tt) (unsigned c.requires.2.ejhr tt) tt in
+    twice.fits
 
 pub overflow_mul-result-4 : goal.overflow_mul-result-4
-overflow_mul-result-4 c = (most c).ranges
+overflow_mul-result-4 c =
+    let twice : Amount =
+        times (literal 2 tt) (unsigned c.requires.2.ejhr tt) tt in
+    let most : Amount =
+        times twice (unsigned c.requires.2.emmr tt) tt in
+    most.fits
 
 pub returns : goal.returns
 unfolding rear_holds
-returns c = at_most (rest c) (most c)
+returns c =
+    let twice : Amount =
+        times (literal 2 tt) (unsigned c.requires.2.ejhr tt) tt in
+    let loaded : Amount =
+        plus (unsigned c.requires.1 tt) (unsigned c.requires.2.em tt) tt in
+    let turned : Amount =
+        times twice loaded tt in
+    let rest : Amount =
+        minus turned (given c.ranges.h c.requires.0) tt in
+    let most : Amount =
+        times twice (unsigned c.requires.2.emmr tt) tt in
+    at_most rest most

@@ -13,7 +13,9 @@ unfolding sum
 loop-k-init c = sum_start c.requires.ordered refl
 
 pub overflow_add-weight : goal.overflow_add-weight
-overflow_add-weight c = omega (arith, (loop-again c).is, c.requires.weights (c.loop-k.k - 1) (omega (arith, c.loop-k.invariant.upto)))
+overflow_add-weight c =
+    omega (arith, ((
+    sum_more c.loop-k.invariant (omega arith) (ap₂ ◌+◌ c.row_word.ensures c.loop-k.invariant.is))).is, c.requires.weights (c.loop-k.k - 1) (omega (arith, c.loop-k.invariant.upto)))
 
 pub loop-k-preserved : goal.loop-k-preserved
 unfolding sum

@@ -20,3 +20,6 @@ overflow_add-times c = omega (arith, count_few c.requires c.loop-j.invariant c.l
 
 pub loop-j-preserved : goal.loop-j-preserved
 loop-j-preserved c = counting_more c.requires c.loop-j.invariant c.loop-j-test.true _ c.count_index-at.ensures.0
+
+pub loop-j-init : goal.loop-j-init
+loop-j-init c = counting_none refl

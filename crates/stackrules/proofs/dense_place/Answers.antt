@@ -5,6 +5,15 @@ use Rattle.manifest.proofs.Reading.{word_most}
 use Rattle.stackrules.proofs.Stacks.{stack_there, truck_there, dense_is}
 use Rattle.stackrules.proofs.dense_place.Goals as goal
 
+pub truck_field-limit-requires : goal.truck_field-limit-requires
+truck_field-limit-requires c = search (rules, truck_there)
+
+pub bottom_field-requires : goal.bottom_field-requires
+bottom_field-requires c = search (rules, stack_there)
+
+pub bottom_field-requires-2 : goal.bottom_field-requires-2
+bottom_field-requires-2 c = search (rules, stack_there)
+
 -- `stackrules::dense_place`: the test compares the products of rule 21.
 pub density_kept-kept-requires : goal.density_kept-kept-requires
 density_kept-kept-requires c =

@@ -14,6 +14,9 @@ use Rattle.stackrules.proofs.first_on_stacks.Goals as goal
 pub loop-k-init : goal.loop-k-init
 loop-k-init c = from_none (rw (manifest_length (stacks_in c.args.limits c.args.t.now)) c.stack_count-k.ensures.0) c.no_breach-first.ensures
 
+pub stack_breach-requires : goal.stack_breach-requires
+stack_breach-requires c = search (rules, manifest_known)
+
 pub loop-k-preserved : goal.loop-k-preserved
 loop-k-preserved c =
     let p = stacks_in c.args.limits c.args.t.now in

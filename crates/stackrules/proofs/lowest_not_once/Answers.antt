@@ -11,3 +11,6 @@ pub returns : goal.returns
 returns c =
     let i = instance_in c.args.limits c.args.t.now in
     above_end i (stacks_in c.args.limits c.args.t.now) c.loop-n.invariant c.loop-n-test.false c.item_count-n.ensures.0 c.count_items.ensures
+
+pub loop-n-init : goal.loop-n-init
+loop-n-init c = above_none

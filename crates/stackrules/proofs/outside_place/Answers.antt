@@ -4,6 +4,15 @@ use borrow.Author.Rules.{rules}
 use Rattle.stackrules.proofs.Stacks.{stack_there, truck_there, outside_is}
 use Rattle.stackrules.proofs.outside_place.Goals as goal
 
+pub load-requires : goal.load-requires
+load-requires c = search (rules, stack_there)
+
+pub truck_field-requires : goal.truck_field-requires
+truck_field-requires c = search (rules, truck_there)
+
+pub truck_field-requires-2 : goal.truck_field-requires-2
+truck_field-requires-2 c = search (rules, truck_there)
+
 -- `stackrules::outside_place`: the tests compare the extents and the limits of rule 22.
 pub truck_field-requires-3 : goal.truck_field-requires-3
 truck_field-requires-3 c = (c.requires.0.filled, truck_there c.requires.0 c.requires.1 c.row_word-truck.ensures, omega arith)

@@ -11,6 +11,15 @@ use Rattle.stackrules.specs.StackRules.{own_places}
 use Rattle.stackrules.proofs.Kept.{both, nothing_told}
 use Rattle.stackrules.proofs.own_rules_kept.Goals as goal
 
+-- the rules one by one are all rules
+module _ (P : OwnRule → Type 0) (docks : P Docks) (top : P TopHeavy) (many : P TooMany) (dense : P Dense) (outside : P Outside) where
+  every-own : (rule : OwnRule) → P rule
+  every-own Docks = docks
+  every-own TopHeavy = top
+  every-own TooMany = many
+  every-own Dense = dense
+  every-own Outside = outside
+
 pub returns : goal.returns
 returns c =
     let i = instance_in c.args.limits c.args.t.now in

@@ -11,6 +11,21 @@ use Rattle.stackrules.proofs.Kept.{all_kept_lem}
 use Rattle.stackrules.proofs.First.{FirstFrom, from_none, from_more, from_kept, from_end, first_same, entry_known}
 use Rattle.stackrules.proofs.stack_breach.Goals as goal
 
+pub load-items-requires : goal.load-items-requires
+load-items-requires c = search (rules, stack_there)
+
+pub loop-j-init : goal.loop-j-init
+loop-j-init c = from_none refl c.no_breach-first.ensures
+
+pub bounds-items-j : goal.bounds-items-j
+bounds-items-j c = omega (arith, c.loop-j.invariant.upto)
+
+pub item_keeps_rules-requires : goal.item_keeps_rules-requires
+item_keeps_rules-requires c = search (rules, stack_there, entry_known)
+
+pub breach_with_item-requires : goal.breach_with_item-requires
+breach_with_item-requires c = search (rules, entry_known)
+
 pub loop-j-preserved-then-not-own-item_keeps_rules : goal.loop-j-preserved-then-not-own-item_keeps_rules
 loop-j-preserved-then-not-own-item_keeps_rules c = from_more 0 c.loop-j.invariant c.loop-j-test.true c.breach_with_item.ensures c.sooner-first.ensures
 

@@ -1,0 +1,6 @@
+-- `stackrules::matches_bottom`: both fields are the model's.
+use borrow.Author.Rules.{rules}
+use Rattle.stackrules.proofs.matches_bottom.Goals as goal
+
+pub returns : goal.returns
+returns c = cc
