@@ -22,7 +22,7 @@ use Rattle.pairrules.specs.PairRules.{ranks_before, in_order_at}
 pub other_supplier : (a b : Rank) → (a.supplier ≡ b.supplier → ⊥) → ltb a.supplier_order b.supplier_order ≡ ranks_before a b
 other_supplier a b d =
     let earlier = ltb a.supplier_order b.supplier_order in
-    rw (ne_eqb a.supplier b.supplier d) (sym (or_false (earlier || false) ∙ or_false earlier))
+    rw (ne_eqb a.supplier b.supplier d) (sym (or-false (earlier || false) ∙ or-false earlier))
 
 pub one_supplier : (a b : Rank) → a.supplier ≡ b.supplier
     → (ltb a.supplier_order b.supplier_order || ltb a.dock_order b.dock_order
@@ -69,4 +69,4 @@ module _ (rows : List ℕ) (a b : ℕ) {u v : ℕ} (eu : u ≡ row_word rows a 4
 
   pub behind_in_order : v < u → {s r : Rank} {before : Bool} → s ≡ rank_at rows a → r ≡ rank_at rows b → before ≡ ranks_before s r
       → not before ≡ in_order_at rows a b
-  behind_in_order h es er e = rw (e, es, er, lt-leb (row_word rows a 4) (row_word rows b 4) (rw (eu, ev) at h)) (sym (or_false _))
+  behind_in_order h es er e = rw (e, es, er, lt-leb (row_word rows a 4) (row_word rows b 4) (rw (eu, ev) at h)) (sym (or-false _))

@@ -49,9 +49,10 @@ loop-k-preserved c =
         
         let fits : SFits w64 c.term_of-term.result.levers = search rules in
         sums_more c.loop-k.invariant c.loop-k-test.true c.term_of-term.ensures.0 (stored fits c.term_of-term.ensures.1) in
-    rw (to_z-of_z {w = w64} ((
     let m = more.levers in
-    rw m.is (in_range_lem _ (levers_size c.requires.0 c.args.departure _ m.upto c.args.twice c.requires.1) tt)))) more
+    let fits : SFits w64 (to_z w64 (of_z w64 c.term_of-term.result.levers) +ℤ to_z w64 c.loop-k.levers-bits) =
+        rw m.is (in_range_lem _ (levers_size c.requires.0 c.args.departure _ m.upto c.args.twice c.requires.1) tt) in
+    ?
 
 pub returns : goal.returns
 returns c = sums_end c.loop-k.invariant c.loop-k-test.false

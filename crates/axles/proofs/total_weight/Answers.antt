@@ -13,6 +13,7 @@ unfolding sum
 loop-k-init c = sum_start c.requires.ordered refl
 
 pub overflow_add-weight : goal.overflow_add-weight
+unfolding sum
 overflow_add-weight c =
     omega (arith, ((
     sum_more c.loop-k.invariant (omega arith) (ap₂ ◌+◌ c.row_word.ensures c.loop-k.invariant.is))).is, c.requires.weights (c.loop-k.k - 1) (omega (arith, c.loop-k.invariant.upto)))

@@ -69,6 +69,6 @@ returns c =
         
         rw c.row_word-truck.ensures (truck_is c.requires.0 c.args.on.start (omega (arith, c.requires.1.some, c.requires.1.within))) in
     let same_copy = c.row_word-copy.ensures ∙ word_is c.requires.0 c.args.on.start (omega (arith, c.requires.1.some, c.requires.1.within)) 3 (omega arith) in
-    lowest_are c.requires.0 c.requires.1 (λ z. record { c = known.0 z; c = same_copy z }) c.read_axle_data-axles.ensures
+    lowest_are c.requires.0 c.requires.1 (λ z. record { truck = known.0 z; copy = same_copy z }) c.read_axle_data-axles.ensures
     (ap length c.suppliers-list.ensures.0) c.total_weight.ensures c.truck_field.ensures.0 c.place_if-2.ensures
     c.loop-departure.invariant.2 c.loop-departure.invariant.3 c.loop-departure-test.false

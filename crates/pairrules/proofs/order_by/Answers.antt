@@ -13,4 +13,8 @@ pub loop-k-preserved : goal.loop-k-preserved
 loop-k-preserved c = (written_more c.loop-k.invariant.0 c.loop-k-test.true c.row_word.ensures, simp length-set c.loop-k.invariant.1)
 
 pub returns : goal.returns
-returns c = let promised = (sorted_by c.loop-k.invariant.0 c.loop-k-test.false (search rules) c.sort.ensures.0, (c.loop-k.invariant.1, c.sort.ensures.1)) in record { sorted = promised.0; lengths = promised.1 }
+returns c =
+    record {
+      sorted = sorted_by c.loop-k.invariant.0 c.loop-k-test.false (search rules) c.sort.ensures.0;
+      lengths = (c.loop-k.invariant.1, c.sort.ensures.1);
+    }

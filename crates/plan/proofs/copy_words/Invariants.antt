@@ -1,0 +1,16 @@
+-- Word by word: up to the index the words are the new ones, behind it the old ones.
+use Prim.Native.Nat.{◌≤◌, ◌-◌}
+use mathlib.Core.Path.{◌≡◌, ◌∙◌}
+use mathlib.Core.List.{◌++◌}
+use native.Mathlib.Omega.{arith}
+use lib.ListN.{length, take, drop, length-set}
+use Rattle.plan.proofs.Splices.{copy_next, copy_done}
+use borrow.Author.Rules.{rules}
+use Rattle.plan.proofs.copy_words.Given as goal
+
+-- Word by word: up to the index the words are the new ones, behind it the old ones.
+abbrev pub invariant-loop-i : goal.invariant-loop-i
+invariant-loop-i l = (l.i ≤ length l.initial.to) × (length l.to ≡ length l.initial.to) × (l.to ≡ take l.i l.from ++ drop l.i l.initial.to)
+
+abbrev pub decreases-loop-i : goal.decreases-loop-i
+decreases-loop-i l = length l.initial.to - l.i
