@@ -52,7 +52,7 @@ loop-k-preserved c =
     let m = more.levers in
     let fits : SFits w64 (to_z w64 (of_z w64 c.term_of-term.result.levers) +ℤ to_z w64 c.loop-k.levers-bits) =
         rw m.is (in_range_lem _ (levers_size c.requires.0 c.args.departure _ m.upto c.args.twice c.requires.1) tt) in
-    ?
+    rw (to_z-of_z {w = w64} {z = to_z w64 (of_z w64 c.term_of-term.result.levers) +ℤ to_z w64 c.loop-k.levers-bits} fits) more
 
 pub returns : goal.returns
 returns c = sums_end c.loop-k.invariant c.loop-k-test.false

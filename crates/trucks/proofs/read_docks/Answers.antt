@@ -13,7 +13,7 @@ use Rattle.trucks.proofs.Docks.{Docks, docks_clear, docks_lent, docks_more, dock
 use Rattle.trucks.proofs.read_docks.Goals as goal
 
 pub loop-k-init : goal.loop-k-init
-loop-k-init c = (c.clear.auto.0 ∙ c.requires.2, c.requires.1, repeat_first _ _ _ c.requires.0 (docks_clear _ (c.clear.ensures ∙ ap (λ (n : ℕ). replicate n 0) c.requires.2)))
+loop-k-init c = (c.clear.auto.words ∙ c.requires.2, c.requires.1, repeat_first _ _ _ c.requires.0 (docks_clear _ (c.clear.ensures ∙ ap (λ (n : ℕ). replicate n 0) c.requires.2)))
 
 pub loop-k-preserved : goal.loop-k-preserved
 loop-k-preserved c =

@@ -14,5 +14,5 @@ truck-refuses-largest ns l e = ranges_below _ truck_ranges ns (omega arith) l e
 pub returns : goal.returns
 returns c =
     rw c.judged.ensures
-    (full_read c.stored_line-stored.ensures (omega (arith, c.stored_line-stored.auto.1.1.1.1.0)) truck_line
+    (full_read c.stored_line-stored.ensures (omega (arith, c.stored_line-stored.auto.out)) truck_line
     (c.stored_line-stored.ensures.says truck_line refl refl (sym c.requires.1) truck-refuses-largest) c.truck_in_range-in_range.result c.truck_in_range-in_range.ensures)

@@ -10,7 +10,7 @@ use Rattle.trucks.proofs.Repeat.{Repeat, Runs, first, next, done}
 use Rattle.trucks.proofs.read_trucks.Goals as goal
 
 pub loop-k-init : goal.loop-k-init
-loop-k-init c = (refl, first _ _ _ c.requires.0 (c.clear.ensures ∙ ap (λ (n : ℕ). replicate n 0) (sym c.clear.auto.0)))
+loop-k-init c = (refl, first _ _ _ c.requires.0 (c.clear.ensures ∙ ap (λ (n : ℕ). replicate n 0) (sym c.clear.auto.words)))
 
 pub read_truck-q-requires : goal.read_truck-q-requires
 read_truck-q-requires c = (c.loop-k.invariant.1.within, omega arith)
@@ -23,4 +23,4 @@ loop-k-preserved c =
     )
 
 pub returns : goal.returns
-returns c = rw c.clear.auto.0 at (done c.loop-k.invariant.1 (omega arith))
+returns c = rw c.clear.auto.words at (done c.loop-k.invariant.1 (omega arith))
