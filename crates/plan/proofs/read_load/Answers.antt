@@ -19,12 +19,13 @@ use Rattle.plan.proofs.Splices.{put_spliced}
 use Rattle.plan.proofs.Judging.{load_refuses_largest, both_made, one_made, load_fits, kept_room, load_within}
 use borrow.Author.Rules.{rules}
 use Rattle.plan.proofs.read_load.Goals as goal
+use Rattle.plan.proofs.read_load.Goals.{then-in_range, else-in_range}
 
 pub slice_bounds-copy_words-end : goal.slice_bounds-copy_words-end
 slice_bounds-copy_words-end c =
     let tested : c.if-in_range.judged_entries
     ≡ (c.all_between-in_range.result && leb (c.args.loaded + c.entries-count.result) (length c.args.loads.now)) =
-        ⊎_elim (λ w. both_made _ w.0.taken w.1) (λ w. one_made _ w.0.left w.1) c.if-in_range.branch in
+        elim c.if-in_range.branch [ then-in_range w ↦ both_made _ w.if-in_range.true w.judged_entries-is | else-in_range w ↦ one_made _ w.if-in_range.false w.judged_entries-is ] in
     let kept : 
     (c.judged_entries-r.result.count ≤ 64) × (c.args.loaded + c.judged_entries-r.result.count ≤ length c.args.loads.now) =
         
@@ -37,7 +38,7 @@ pub overflow_add-loaded-2 : goal.overflow_add-loaded-2
 overflow_add-loaded-2 c =
     let tested : c.if-in_range.judged_entries
     ≡ (c.all_between-in_range.result && leb (c.args.loaded + c.entries-count.result) (length c.args.loads.now)) =
-        ⊎_elim (λ w. both_made _ w.0.taken w.1) (λ w. one_made _ w.0.left w.1) c.if-in_range.branch in
+        elim c.if-in_range.branch [ then-in_range w ↦ both_made _ w.if-in_range.true w.judged_entries-is | else-in_range w ↦ one_made _ w.if-in_range.false w.judged_entries-is ] in
     let kept : 
     (c.judged_entries-r.result.count ≤ 64) × (c.args.loaded + c.judged_entries-r.result.count ≤ length c.args.loads.now) =
         
@@ -50,7 +51,7 @@ pub slice_bounds-copy_words-end-2 : goal.slice_bounds-copy_words-end-2
 slice_bounds-copy_words-end-2 c =
     let tested : c.if-in_range.judged_entries
     ≡ (c.all_between-in_range.result && leb (c.args.loaded + c.entries-count.result) (length c.args.loads.now)) =
-        ⊎_elim (λ w. both_made _ w.0.taken w.1) (λ w. one_made _ w.0.left w.1) c.if-in_range.branch in
+        elim c.if-in_range.branch [ then-in_range w ↦ both_made _ w.if-in_range.true w.judged_entries-is | else-in_range w ↦ one_made _ w.if-in_range.false w.judged_entries-is ] in
     let kept : 
     (c.judged_entries-r.result.count ≤ 64) × (c.args.loaded + c.judged_entries-r.result.count ≤ length c.args.loads.now) =
         
@@ -65,7 +66,7 @@ returns c =
         c.stored_line-stored.new.out in
     let tested : c.if-in_range.judged_entries
     ≡ (c.all_between-in_range.result && leb (c.args.loaded + c.entries-count.result) (length c.args.loads.now)) =
-        ⊎_elim (λ w. both_made _ w.0.taken w.1) (λ w. one_made _ w.0.left w.1) c.if-in_range.branch in
+        elim c.if-in_range.branch [ then-in_range w ↦ both_made _ w.if-in_range.true w.judged_entries-is | else-in_range w ↦ one_made _ w.if-in_range.false w.judged_entries-is ] in
     let kept : 
     (c.judged_entries-r.result.count ≤ 64) × (c.args.loaded + c.judged_entries-r.result.count ≤ length c.args.loads.now) =
         
@@ -81,7 +82,7 @@ returns c =
         
         let words = load in
         let f = form in
-        let long : length words ≡ 64 = c.stored_line-stored.auto.1.1.1.1.0 in
+        let long : length words ≡ 64 = c.stored_line-stored.auto.out in
         
         let fits =
         load_fits words (length c.args.loads.now) c.args.items c.args.loaded c.entries-count.result (omega (arith, c.entries-count.ensures, c.stored_line-stored.ensures.room))

@@ -13,7 +13,7 @@ loop-q-init c =
     (c.clear.ensures ∙ ap (λ (n : ℕ). replicate n 0) c.requires.4) c.requires.1 c.requires.3
 
 pub loop-q-preserved : goal.loop-q-preserved
-loop-q-preserved c = so_far_next c.loop-q.invariant _ _ c.loop-q-test.true c.read_stack-q.auto.1.1.1.1.0 c.read_stack-q.ensures
+loop-q-preserved c = so_far_next c.loop-q.invariant _ _ c.loop-q-test.true c.read_stack-q.auto.part c.read_stack-q.ensures
 
 pub returns : goal.returns
 returns c = so_far_done c.loop-q.invariant (omega arith)
