@@ -1,0 +1,23 @@
+-- `placement::are_in_order`: each stack is asked with those before it, and with those behind it keeps the order anyway.
+use mathlib.Core.Path.{◌≡◌}
+use mathlib.Core.Bool.{true}
+use Prim.Native.Nat.{◌-◌}
+use native.Mathlib.Omega.{arith}
+use borrow.Author.Rules.{rules}
+use Rattle.meaning.proofs.Tests.{iff_trans}
+use Rattle.pairrules.specs.PairRules.{in_order_at, Each, place_at}
+use Rattle.pairrules.proofs.Places.{Upto, upto_start, upto_kept, upto_broken, upto_all}
+use Rattle.placement.proofs.Walk.{ordered_two}
+use Rattle.placement.proofs.are_in_order.Goals as goal
+
+pub loop-k-init : goal.loop-k-init
+loop-k-init c = upto_start (omega arith)
+
+pub returns-then-not-is_in_order : goal.returns-then-not-is_in_order
+returns-then-not-is_in_order c = iff_trans (upto_broken c.loop-k.invariant c.loop-k-test.true c.is_in_order.ensures c.if-not-is_in_order.true-raw) (ordered_two c.requires)
+
+pub loop-k-preserved : goal.loop-k-preserved
+loop-k-preserved c = upto_kept c.loop-k.invariant c.loop-k-test.true c.is_in_order.ensures c.if-not-is_in_order.false-raw
+
+pub returns : goal.returns
+returns c = iff_trans (upto_all c.loop-k.invariant c.loop-k-test.false) (ordered_two c.requires)

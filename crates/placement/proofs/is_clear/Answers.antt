@@ -1,0 +1,23 @@
+-- `placement::is_clear`: those it has passed lie apart, and from one that begins where it ends x rises along the trailer.
+use Prim.Native.Nat.{◌-◌}
+use borrow.Author.Rules.{rules}
+use Rattle.placement.proofs.Trailer.{ClearUpto, clear_start, clear_all, clear_behind, clear_broken, clear_more}
+use Rattle.placement.proofs.is_clear.Goals as goal
+
+pub loop-j-init : goal.loop-j-init
+loop-j-init c = clear_start c.requires.0 c.requires.1 c.footprint_along-ground.ensures
+
+pub footprint_along-other-requires : goal.footprint_along-other-requires
+footprint_along-other-requires c = (c.loop-j.invariant.held, c.loop-j-test.true)
+
+pub returns-then-ground-other : goal.returns-then-ground-other
+returns-then-ground-other c = clear_behind c.loop-j.invariant c.loop-j-test.true c.footprint_along-other.ensures c.if-ground-other.true
+
+pub returns-then-not-disjoint : goal.returns-then-not-disjoint
+returns-then-not-disjoint c = clear_broken c.loop-j.invariant c.loop-j-test.true c.footprint_along-other.ensures c.disjoint.ensures c.if-not-disjoint.true-raw
+
+pub loop-j-preserved : goal.loop-j-preserved
+loop-j-preserved c = clear_more c.loop-j.invariant c.loop-j-test.true c.footprint_along-other.ensures c.disjoint.ensures c.if-not-disjoint.false-raw
+
+pub returns : goal.returns
+returns c = clear_all c.loop-j.invariant c.loop-j-test.false

@@ -1,0 +1,23 @@
+-- `placement::is_in_order`: every stack before it along the trailer is asked.
+use Prim.Native.Nat.{◌-◌}
+use native.Mathlib.Omega.{arith}
+use borrow.Author.Rules.{rules}
+use Rattle.placement.proofs.Trailer.{InOrderUpto, in_order_start, in_order_all, both_room, in_order_broken, in_order_more}
+use Rattle.placement.proofs.is_in_order.Goals as goal
+
+pub loop-j-init : goal.loop-j-init
+loop-j-init c = in_order_start c.requires.0 c.requires.1 c.place_along-place.ensures
+
+pub in_loading_order-requires : goal.in_loading_order-requires
+in_loading_order-requires c =
+    let both = both_room c.loop-j.invariant c.loop-j-test.true c.place_along.ensures in
+    (omega (arith, both), omega (arith, both))
+
+pub returns-then-not-in_loading_order : goal.returns-then-not-in_loading_order
+returns-then-not-in_loading_order c = in_order_broken c.loop-j.invariant c.loop-j-test.true c.place_along.ensures c.in_loading_order.ensures c.if-not-in_loading_order.true-raw
+
+pub loop-j-preserved : goal.loop-j-preserved
+loop-j-preserved c = in_order_more c.loop-j.invariant c.loop-j-test.true c.place_along.ensures c.in_loading_order.ensures c.if-not-in_loading_order.false-raw
+
+pub returns : goal.returns
+returns c = in_order_all c.loop-j.invariant c.loop-j-test.false
