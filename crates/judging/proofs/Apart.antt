@@ -1,7 +1,7 @@
 -- A plan in two parts that share no used truck: the places where a rule on used trucks is broken are those of the one part and those of the
 -- other, and so are the used trucks.
 use mathlib.Core.Path.{◌≡◌, refl, ap, ap₂, ◌∙◌}
-use mathlib.Core.Bool.{Bool, false, not, ◌&&◌, ◌||◌, or_false}
+use mathlib.Core.Bool.{Bool, false, not, ◌&&◌, ◌||◌, or-false}
 use mathlib.Core.List.{List, [], ◌++◌, map, flat_map, append-nil, map-append}
 use lib.Dec.{eqb}
 use Rattle.meaning.specs.declared.Place.{Place}

@@ -1,0 +1,7 @@
+-- `judging::accept`: the cost and the count are those of the definition.
+use borrow.Author.Rules.{rules}
+use Rattle.judging.proofs.Cost.{accepted}
+use Rattle.judging.proofs.accept.Goals as goal
+
+pub returns : goal.returns
+returns c = accepted c.requires.1 c.plan_cost.ensures

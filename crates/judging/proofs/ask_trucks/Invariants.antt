@@ -1,0 +1,19 @@
+-- `judging::ask_trucks`: what the used trucks from the current place on answer is right, and no truck has stacks on both sides of it.
+use borrow.Author.Rules.{rules}
+use Rattle.meaning.specs.Table.{instance_in, stacks_in}
+use Rattle.judging.proofs.Told.{Told, told_start, told_more, told_end, truck_told, one_truck, few_stacks}
+use lib.ListN.{length}
+use mathlib.Core.Path.{◌≡◌, refl, ◌∙◌}
+use native.Mathlib.Omega.{arith}
+use Rattle.manifest.specs.Manifest.{block, HoldsRows, OneTruck, Parted}
+use Rattle.placement.proofs.Placing.{truck_rows, placed_stacks}
+use Rattle.judging.proofs.ask_trucks.Given as goal
+
+-- `judging::ask_trucks`: what the used trucks from the current place on answer is right, and no truck has stacks on both sides of it.
+abbrev pub invariant-loop-end : goal.invariant-loop-end
+invariant-loop-end l = Told l.asked (instance_in l.limits l.t) (stacks_in l.limits l.t) l.end (record { single_pair = l.single_pair; placement = l.placement; weights = l.weights })
+    l.used.count l.used.cost
+    × (length l.keys ≡ length l.initial.keys) × (length l.along ≡ length l.initial.along)
+
+abbrev pub decreases-loop-end : goal.decreases-loop-end
+decreases-loop-end l = l.end

@@ -1,0 +1,15 @@
+-- `judging::kinds_below`: everything is asked, or the kinds of the rules before k.
+use borrow.Author.Rules.{rules}
+use mathlib.Core.Path.{◌≡◌, ap, ◌∙◌}
+use Prim.Native.Nat.{◌-◌, ◌≤◌}
+use native.Mathlib.Omega.{arith}
+use Rattle.judging.specs.Judging.{with_rule, AskedBelow}
+use Rattle.judging.proofs.Asking.{asked_all, asked_none, asked_more}
+use Rattle.judging.proofs.kinds_below.Given as goal
+
+-- `judging::kinds_below`: everything is asked, or the kinds of the rules before k.
+abbrev pub invariant-loop-k : goal.invariant-loop-k
+invariant-loop-k l = AskedBelow l.k l.asked × (l.k ≤ l.rank)
+
+abbrev pub decreases-loop-k : goal.decreases-loop-k
+decreases-loop-k l = l.rank - l.k

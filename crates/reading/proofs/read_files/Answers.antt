@@ -1,0 +1,6 @@
+-- Reading within the limits of the document.
+use borrow.Author.Rules.{rules}
+use Rattle.reading.proofs.read_files.Goals as goal
+
+pub returns : goal.returns
+returns c = rw c.small_limits.ensures.0 at c.read_within.ensures

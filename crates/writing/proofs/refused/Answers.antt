@@ -1,0 +1,10 @@
+-- No file has a length.
+use mathlib.Core.Path.{refl}
+use Rattle.meaning.specs.Write.{written}
+use borrow.Author.Rules.{rules}
+use Rattle.writing.proofs.refused.Goals as goal
+
+-- No file has a length.
+pub returns : goal.returns
+unfolding written
+returns c = refl
