@@ -58,7 +58,7 @@ module _ (i : Instance) (l l' : List Stack) (apart : Apart l l') where
   first_braced : (s : Stack) → In s l → braced i (l ++ l') s ≡ braced i l s
   first_braced s m =
       ap (λ b. eqb (x s) 0 || b)
-      (any_append (braced_by i s) l l' ∙ rw (any_none (braced_by i s) l' (λ r n. no_brace s r (apart s r m n))) (or_false (any (braced_by i s) l)))
+      (any_append (braced_by i s) l l' ∙ rw (any_none (braced_by i s) l' (λ r n. no_brace s r (apart s r m n))) (or-false (any (braced_by i s) l)))
 
   second_braced : (r : Stack) → In r l' → braced i (l ++ l') r ≡ braced i l' r
   second_braced r n =

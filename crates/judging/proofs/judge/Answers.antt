@@ -11,4 +11,4 @@ returns-in-At c = c.refuse.ensures ∙ once_broken (instance_in c.args.limits c.
 pub returns : goal.returns
 returns c =
     c.judge_loading.ensures
-    ∙ once_kept (instance_in c.args.limits c.args.t.now) (stacks_in c.args.limits c.args.t.now) c.lowest_not_once-found.ensures c.enum_told-1.given.1
+    ∙ once_kept (instance_in c.args.limits c.args.t.now) (stacks_in c.args.limits c.args.t.now) c.lowest_not_once-found.ensures c.in-Nothing.is

@@ -33,8 +33,8 @@ returns-in-OfStacks c =
     let inside : c.survey_plan-told.result.rank < rule_count =
         rank_inside told c.if-rank-eq-RULES.false in
     let refused-by : (a : Answer) → (q : Place) → a ≡ refusal c.verdict_at-verdict.result q → At q ≡ lowest_in (rule_places (rule_at c.survey_plan-told.result.rank) instance stacks) → a ≡ first_broken loading_rules instance stacks (acceptance (cost instance stacks) (length (used_trucks stacks))) =
-        λ e low. refused instance stacks told inside _ e c.verdict_at-verdict.ensures low in
-    refused-by c.refuse.ensures
+        λ a q e low. refused instance stacks told inside _ e c.verdict_at-verdict.ensures low in
+    refused-by _ _ c.refuse.ensures
     (stack_broken instance stacks told inside _ c.rule_at-rule.ensures c.in-OfStacks.is)
 
 pub returns-in-OfPairs : goal.returns-in-OfPairs
@@ -48,8 +48,8 @@ returns-in-OfPairs c =
     let inside : c.survey_plan-told.result.rank < rule_count =
         rank_inside told c.if-rank-eq-RULES.false in
     let refused-by : (a : Answer) → (q : Place) → a ≡ refusal c.verdict_at-verdict.result q → At q ≡ lowest_in (rule_places (rule_at c.survey_plan-told.result.rank) instance stacks) → a ≡ first_broken loading_rules instance stacks (acceptance (cost instance stacks) (length (used_trucks stacks))) =
-        λ e low. refused instance stacks told inside _ e c.verdict_at-verdict.ensures low in
-    refused-by (c.refuse-in-OfPairs.ensures ∙ ap (refusal c.verdict_at-verdict.result) c.IsPlace-in.ensures)
+        λ a q e low. refused instance stacks told inside _ e c.verdict_at-verdict.ensures low in
+    refused-by _ _ (c.refuse-in-OfPairs.ensures ∙ ap (refusal c.verdict_at-verdict.result) c.place_in.ensures)
     (pair_broken instance stacks told inside _ c.rule_at-rule.ensures c.in-OfPairs.is c.lowest_pair-lowest.ensures)
 
 pub returns-in-OfTrucks : goal.returns-in-OfTrucks
@@ -63,6 +63,6 @@ returns-in-OfTrucks c =
     let inside : c.survey_plan-told.result.rank < rule_count =
         rank_inside told c.if-rank-eq-RULES.false in
     let refused-by : (a : Answer) → (q : Place) → a ≡ refusal c.verdict_at-verdict.result q → At q ≡ lowest_in (rule_places (rule_at c.survey_plan-told.result.rank) instance stacks) → a ≡ first_broken loading_rules instance stacks (acceptance (cost instance stacks) (length (used_trucks stacks))) =
-        λ e low. refused instance stacks told inside _ e c.verdict_at-verdict.ensures low in
-    refused-by (c.refuse-in-OfTrucks.ensures ∙ ap (refusal c.verdict_at-verdict.result) c.place_in-in-OfTrucks.ensures)
+        λ a q e low. refused instance stacks told inside _ e c.verdict_at-verdict.ensures low in
+    refused-by _ _ (c.refuse-in-OfTrucks.ensures ∙ ap (refusal c.verdict_at-verdict.result) c.place_in-in-OfTrucks.ensures)
     (truck_broken instance stacks told inside _ c.rule_at-rule.ensures c.in-OfTrucks.is c.truck_found.ensures)
