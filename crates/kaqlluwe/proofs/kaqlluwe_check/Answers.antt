@@ -1,0 +1,6 @@
+-- What the check promises is promised here.
+use borrow.Author.Rules.{rules}
+use Rattle.kaqlluwe.proofs.kaqlluwe_check.Goals as goal
+
+pub returns : goal.returns
+returns c = c.check.ensures

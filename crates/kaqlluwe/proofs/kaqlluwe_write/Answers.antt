@@ -1,0 +1,6 @@
+-- What writing the files promises is promised here.
+use borrow.Author.Rules.{rules}
+use Rattle.kaqlluwe.proofs.kaqlluwe_write.Goals as goal
+
+pub returns : goal.returns
+returns c = c.write_files.ensures
