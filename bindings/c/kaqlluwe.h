@@ -1,4 +1,4 @@
-/* The load plan checker for C. Link target/staticlib/libkaqlluwe.a, which `rt staticlib kaqlluwe` proves and writes.
+/* The load plan checker for C. Link target/staticlib/libkaqlluwe.a, which `tools/build library` proves and writes.
  *
  * A file or a buffer is given as a pointer to its bytes and their number, the table as a pointer to its words and their number. No pointer
  * is null, also where the number is 0; what a call fills (the table of a check, the two buffers of the writer) overlaps nothing else that

@@ -1,4 +1,4 @@
-//! Links the static library of the check, which `rt staticlib kaqlluwe` proves and writes. The benchmark is given a second one, of another
+//! Links the static library of the check, which `tools/build library` proves and writes. The benchmark is given a second one, of another
 //! commit, when KAQLLUWE_BEFORE names its file.
 
 use std::env;
@@ -10,7 +10,7 @@ fn main() {
     let library = folder.join("libkaqlluwe.a");
     println!("cargo:rerun-if-changed={}", library.display());
     if !library.exists() {
-        println!("cargo:warning=target/staticlib/libkaqlluwe.a is missing: 'rt staticlib kaqlluwe' writes it");
+        println!("cargo:warning=target/staticlib/libkaqlluwe.a is missing: 'tools/build library' writes it");
     }
     println!("cargo:rustc-check-cfg=cfg(before)");
     println!("cargo:rustc-check-cfg=cfg(writer_before)");
