@@ -26,14 +26,12 @@ const LONG_RUN: usize = 64;
 /// What the table holds before the check, so that an untouched word shows.
 const BEFORE: u32 = 7;
 
-const HEAD: &str = "use mathlib.Core.Path.{_≡_, refl}
-use mathlib.Core.List.{List, [], _∷_, _++_}
-use Prim.Native.Nat.{ℕ}
-use lib.ListN.{replicate}
-use Rattle·meaning.specs.Limits.{small}
-use Rattle·meaning.specs.Text.{bytes}
-use Rattle·meaning.specs.Check.{answer, tableAfter}
-use Rattle·meaning.specs.BadLine.{handedBack, partBytes}
+const HEAD: &str = "use Rattle.std.proofs.Common.{◌≡◌, refl, ℕ, List, [], ◌∷◌, ◌++◌}
+use Rattle.std.specs.Prelude.{replicate}
+use Rattle.meaning.specs.Limits.{small}
+use Rattle.meaning.specs.Text.{bytes}
+use Rattle.meaning.specs.Check.{answer, table_after}
+use Rattle.meaning.specs.BadLine.{handed_back, part_bytes}
 ";
 
 struct Order {
@@ -191,7 +189,7 @@ fn write_theorems(scratch: &Path, cases: &[Case], left: &[usize], order: &Order)
     let _ = std::fs::remove_dir_all(&home);
     std::fs::create_dir_all(home.join("src")).map_err(told)?;
     std::fs::create_dir_all(home.join("specs")).map_err(told)?;
-    std::fs::write(home.join("src/lib.rt"), "pub struct Nothing {\n    pub none: u32,\n}\n").map_err(told)?;
+    std::fs::write(home.join("src/lib.rt"), "#![tactic(auto)]\n\n#[derive(Clone, Copy)]\npub struct Nothing {\n    pub none: u32,\n}\n").map_err(told)?;
     let mut modules = String::new();
     for (number, part) in left.chunks(PER_MODULE).enumerate() {
         writeln!(modules, "pub mod Cases{number}").expect("a string takes every line");
@@ -246,8 +244,8 @@ fn line_theorem(index: usize, case: &Case) -> String {
     let part = literal(bad_line(&case.instance, &case.plan, number, line));
     format!(
         "
-pub line-{index} : partBytes instance-{index} plan-{index} (handedBack instance-{index} plan-{index} {number} {line}) ≡ {part}
-unfolding handedBack
+pub line-{index} : part_bytes instance-{index} plan-{index} (handed_back instance-{index} plan-{index} {number} {line}) ≡ {part}
+unfolding handed_back
 line-{index} = refl
 "
     )
@@ -258,8 +256,8 @@ fn table_theorem(index: usize, case: &Case) -> String {
     let (words, after) = (case.table.len(), runs(&case.table));
     format!(
         "
-pub table-{index} : tableAfter small (replicate {words} {BEFORE}) instance-{index} plan-{index} ≡ {after}
-unfolding tableAfter
+pub table-{index} : table_after small (replicate {words} {BEFORE}) instance-{index} plan-{index} ≡ {after}
+unfolding table_after
 table-{index} = refl
 "
     )
@@ -325,8 +323,7 @@ fn joined(parts: Vec<String>) -> String {
 fn prove(scratch: &Path) -> Result<(bool, String), String> {
     let run = Command::new("rt")
         .arg("check")
-        .current_dir(scratch)
-        .env("RT_CUT", "0")
+        .current_dir(scratch.join("crates/cases"))
         .output();
     let run = run.map_err(|error| format!("rt: {error}"))?;
     let said = String::from_utf8_lossy(&run.stdout).into_owned() + &String::from_utf8_lossy(&run.stderr);
