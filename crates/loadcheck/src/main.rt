@@ -4,13 +4,15 @@
 
 use checking::check;
 use fileio::{print_answer, read_file};
+use std::io;
 
-fn main() {
+fn main(rt: HostRuntime) -> io::Result<()> {
     // A file may have 65,535 bytes: one byte more shows that it is overlong.
     let mut instance = [0u8; 65536];
     let mut plan = [0u8; 65536];
     let mut table = [0u32; 8976];
-    let n = read_file(b"instance.txt", &mut instance);
-    let m = read_file(b"plan.txt", &mut plan);
-    print_answer(check(&instance[..n], &plan[..m], &mut table));
+    let n = read_file(&rt, b"instance.txt", &mut instance);
+    let m = read_file(&rt, b"plan.txt", &mut plan);
+    let answer = check(&instance[..n], &plan[..m], &mut table);
+    print_answer(&mut io::writer(&rt), answer)
 }

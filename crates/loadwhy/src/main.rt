@@ -7,66 +7,68 @@ use badline::{bad_line, locate};
 use checking::check;
 use fileio::{print, read_file_in};
 use sentence::print_sentence;
+use std::io::Write;
+use std::rt::Files;
+use std::{env, io};
 
 // Prints the bad line of a verdict that names one.
-fn print_bad_line<'a>(instance: &'a [u8], plan: &'a [u8], number: u32, line: u32) {
+fn print_bad_line<'a, W: Write>(
+    out: &mut W,
+    instance: &'a [u8],
+    plan: &'a [u8],
+    number: u32,
+    line: u32,
+) -> io::Result<()> {
     match number {
         4 | 5 | 7 | 8 => {}
         _ => {
-            return;
+            return Ok(());
         }
     }
     // A line that is there begins before the end of its file.
     let part = locate(instance, plan, number, line);
     if !part.plan & (part.start == instance.len()) {
-        print(b"The file ends before that line.\n");
-        return;
+        return print(out, b"The file ends before that line.\n");
     }
-    print(bad_line(instance, plan, number, line));
-    print(b"\n");
+    print(out, bad_line(instance, plan, number, line))?;
+    print(out, b"\n")
 }
 
 // Checks a plan and says what its verdict means.
-fn explain<'a>(instance: &'a [u8], plan: &'a [u8]) {
+fn explain<'a, W: Write>(out: &mut W, instance: &'a [u8], plan: &'a [u8]) -> io::Result<()> {
     let mut table = [0u32; 8976];
     let answer = check(instance, plan, &mut table);
-    print_sentence(answer);
-    print_bad_line(instance, plan, answer.number, answer.first);
+    print_sentence(out, answer)?;
+    print_bad_line(out, instance, plan, answer.number, answer.first)
 }
 
 // The plan of a folder.
-fn explain_folder(folder: &[u8]) {
+fn explain_folder<R: Files, W: Write>(files: &R, out: &mut W, folder: &[u8]) -> io::Result<()> {
     // A file may have 65,535 bytes: one byte more shows that it is overlong.
     let mut instance = [0u8; 65536];
     let mut plan = [0u8; 65536];
-    let n = read_file_in(folder, b"/instance.txt", &mut instance);
-    let m = read_file_in(folder, b"/plan.txt", &mut plan);
-    explain(&instance[..n], &plan[..m]);
+    let n = read_file_in(files, folder, b"/instance.txt", &mut instance);
+    let m = read_file_in(files, folder, b"/plan.txt", &mut plan);
+    explain(out, &instance[..n], &plan[..m])
 }
 
 // The same, with the folder's name in front of the sentence.
-fn explain_named(folder: &[u8]) {
-    print(folder);
-    print(b": ");
-    explain_folder(folder);
+fn explain_named<R: Files, W: Write>(files: &R, out: &mut W, folder: &[u8]) -> io::Result<()> {
+    print(out, folder)?;
+    print(out, b": ")?;
+    explain_folder(files, out, folder)
 }
 
-// The folder that an argument of the program names.
-fn explain_argument(i: usize) {
-    let mut folder = io::buffer();
-    let n = os::arg(i, &mut folder);
-    explain_named(&folder[..n]);
-}
-
-fn main() {
+// An argument that is no text, as a name in an older encoding, ends the program with an error: no folder could be opened by it.
+fn main(rt: HostRuntime) -> io::Result<()> {
+    let mut out = io::writer(&rt);
     // The first argument is the program's own name.
-    let count = os::arg_count();
-    if count < 2 {
-        explain_folder(b".");
+    let folders = env::args(&rt)?.skip(1);
+    if folders.len() == 0 {
+        return explain_folder(&rt, &mut out, b".");
     }
-    let mut i = 1;
-    while i < count {
-        explain_argument(i);
-        i += 1;
+    for folder in folders {
+        explain_named(&rt, &mut out, folder.as_bytes())?;
     }
+    Ok(())
 }

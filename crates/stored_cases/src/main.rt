@@ -7,20 +7,21 @@
 // of its plan, and how many words of the table are lent. data/labels.txt says in a word what each case tries.
 #![tactic(auto)]
 
-ghost use Rattle.std.specs.Prelude.{◌<◌};
+ghost use Rattle.std.specs.Prelude.{◌≡◌, ◌<◌, length, replicate};
 
 use fileio::{print, print_answer, print_number, read_file};
 use meaning::Answer;
 use sentence::print_sentence;
+use std::io;
+use std::io::Write;
+use std::rt::Files;
 use text::ParsedLine;
 
 // Every word becomes this one.
-fn fill(words: &mut [u32], word: u32) {
-    let mut i = 0;
-    while i < words.len() {
-        words[i] = word;
-        i += 1;
-    }
+fn fill(words: &mut [u32], word: u32)
+    ensures { words.new ≡ replicate (length words.old) word }
+{
+    words.fill(word);
 }
 
 // The same number, wider.
@@ -33,10 +34,8 @@ fn wide(word: u32) -> u64
 // A number that a wrong word anywhere is likely to change.
 fn checksum(words: &[u32]) -> u64 {
     let mut sum: u64 = 0;
-    let mut i = 0;
-    while i < words.len() {
-        sum = (sum % 4294967291 * 31 + wide(words[i])) % 4294967291;
-        i += 1;
+    for word in words {
+        sum = (sum % 4294967291 * 31 + wide(*word)) % 4294967291;
     }
     sum
 }
@@ -51,56 +50,74 @@ fn wide_byte(byte: u8) -> u64
 // The same checksum, of bytes.
 fn byte_checksum(bytes: &[u8]) -> u64 {
     let mut sum: u64 = 0;
-    let mut i = 0;
-    while i < bytes.len() {
-        sum = (sum % 4294967291 * 31 + wide_byte(bytes[i])) % 4294967291;
-        i += 1;
+    for byte in bytes {
+        sum = (sum % 4294967291 * 31 + wide_byte(*byte)) % 4294967291;
     }
     sum
 }
 
 // Prints where the bad line of a verdict stands, and what it is.
-fn print_line<'a>(instance: &'a [u8], plan: &'a [u8], number: u32, line: u32) {
+fn print_line<'a, W: Write>(
+    out: &mut W,
+    instance: &'a [u8],
+    plan: &'a [u8],
+    number: u32,
+    line: u32,
+) -> io::Result<()> {
     let part = badline::locate(instance, plan, number, line);
     let file: u64 = if part.plan { 1 } else { 0 };
-    print(b"; ");
-    print_number(file, b" ");
-    print_number(part.start as u64, b" ");
-    print_number(part.end as u64, b" ");
-    print_number(
-        byte_checksum(badline::bad_line(instance, plan, number, line)),
-        b"",
-    );
+    print(out, b"; ")?;
+    print_number(out, file, b" ")?;
+    print_number(out, part.start as u64, b" ")?;
+    print_number(out, part.end as u64, b" ")?;
+    let bytes = badline::bad_line(instance, plan, number, line);
+    print_number(out, byte_checksum(bytes), b"")
 }
 
 // Line 0, lines that may be missing, and a verdict that has no bad line.
-fn print_asked_lines<'a>(instance: &'a [u8], plan: &'a [u8]) {
-    print_line(instance, plan, 4, 0);
-    print_line(instance, plan, 5, 3);
-    print_line(instance, plan, 7, 2);
-    print_line(instance, plan, 8, 9999);
-    print_line(instance, plan, 6, 1);
+fn print_asked_lines<'a, W: Write>(
+    out: &mut W,
+    instance: &'a [u8],
+    plan: &'a [u8],
+) -> io::Result<()> {
+    print_line(out, instance, plan, 4, 0)?;
+    print_line(out, instance, plan, 5, 3)?;
+    print_line(out, instance, plan, 7, 2)?;
+    print_line(out, instance, plan, 8, 9999)?;
+    print_line(out, instance, plan, 6, 1)
 }
 
 // Prints the answer of a case, its sentence and the checksum of its table.
-fn print_case<'a>(instance: &'a [u8], plan: &'a [u8], answer: Answer, table: u64) {
-    print_answer(answer);
-    print_sentence(answer);
-    print_number(table, b"");
-    print_line(instance, plan, answer.number, answer.first);
-    print_asked_lines(instance, plan);
-    print(b"\n");
+fn print_case<'a, W: Write>(
+    out: &mut W,
+    instance: &'a [u8],
+    plan: &'a [u8],
+    answer: Answer,
+    table: u64,
+) -> io::Result<()> {
+    print_answer(out, answer)?;
+    print_sentence(out, answer)?;
+    print_number(out, table, b"")?;
+    print_line(out, instance, plan, answer.number, answer.first)?;
+    print_asked_lines(out, instance, plan)?;
+    print(out, b"\n")
 }
 
 // One case, with so many words of the table lent.
-fn run_case<'a>(instance: &'a [u8], plan: &'a [u8], lent: u32, table: &mut [u32]) {
+fn run_case<'a, W: Write>(
+    out: &mut W,
+    instance: &'a [u8],
+    plan: &'a [u8],
+    lent: u32,
+    table: &mut [u32],
+) -> io::Result<()> {
     let words = lent as usize;
     if table.len() < words {
-        return;
+        return Ok(());
     }
     fill(table, 7);
     let answer = checking::check(instance, plan, &mut table[0..words]);
-    print_case(instance, plan, answer, checksum(table));
+    print_case(out, instance, plan, answer, checksum(table))
 }
 
 // The part of the files that a case names; nothing where it lies outside.
@@ -115,37 +132,45 @@ fn part<'a>(files: &'a [u8], start: u32, size: u32) -> &'a [u8] {
 }
 
 // One case after another, up to the first line that names none.
-fn run(cases: &[u8], files: &[u8], table: &mut [u32]) {
+fn run<W: Write>(out: &mut W, cases: &[u8], files: &[u8], table: &mut [u32]) -> io::Result<()> {
     let mut at: usize = 0;
     while at < cases.len() {
         let mut case: [u32; 5] = [0; 5];
         match text::parse_line(cases, at, b"case=", 5, &mut case) {
             ParsedLine::Next(next, _) => {
                 if next <= at {
-                    return;
+                    return Ok(());
                 }
                 at = next;
             }
             ParsedLine::WrongForm => {
-                return;
+                return Ok(());
             }
         }
         let instance = part(files, case[0], case[1]);
         let plan = part(files, case[2], case[3]);
-        run_case(instance, plan, case[4], table);
+        run_case(out, instance, plan, case[4], table)?;
     }
+    Ok(())
 }
 
 // Every case, with the cases and their files read into the lent bytes.
-fn run_all(cases: &mut [u8], files: &mut [u8], table: &mut [u32]) {
-    let n = read_file(b"cases.txt", cases);
-    let m = read_file(b"files.bin", files);
-    run(&cases[..n], &files[..m], table);
+fn run_all<R: Files, W: Write>(
+    system: &R,
+    out: &mut W,
+    cases: &mut [u8],
+    files: &mut [u8],
+    table: &mut [u32],
+) -> io::Result<()> {
+    let n = read_file(system, b"cases.txt", cases);
+    let m = read_file(system, b"files.bin", files);
+    run(out, &cases[..n], &files[..m], table)
 }
 
-fn main() {
+fn main(rt: HostRuntime) -> io::Result<()> {
     let mut cases = [0u8; 65536];
     let mut files = [0u8; 1572864];
     let mut table = [0u32; 8980];
-    run_all(&mut cases, &mut files, &mut table);
+    let mut out = io::writer(&rt);
+    run_all(&rt, &mut out, &mut cases, &mut files, &mut table)
 }

@@ -1,0 +1,6 @@
+-- A line that was read ends behind where it began, so the cases end the loop.
+use Rattle.std.proofs.Common.{length, ◌-◌}
+use Rattle.stored_cases.proofs.run.Given as goal
+
+abbrev pub decreases-loop-at : goal.decreases-loop-at
+decreases-loop-at g l = length l.cases - l.at
