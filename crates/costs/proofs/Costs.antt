@@ -1,6 +1,6 @@
 -- A sum that is counted down a list, and how large the parts of the cost can be.
 use mathlib.Core.Path.{◌≡◌, refl, ap, ◌∙◌}
-use mathlib.Core.List.{List, [], ◌∷◌}
+use mathlib.Core.List.{List}
 use Prim.Native.Nat.{ℕ, ◌+◌, ◌-◌, ◌*◌, ◌≤◌, ◌<◌}
 use native.Mathlib.Nat.{le_trans, mul-le-mul}
 use native.Mathlib.Omega.{arith}
@@ -8,9 +8,9 @@ use borrow.Author.Tests.{ne_eqb}
 use lib.ListN.{length, get_or, drop}
 use Rattle.meaning.specs.declared.Limits.{Limits}
 use Rattle.meaning.specs.Lists.{sum}
-use Rattle.meaning.specs.Model.{Instance, Stack, item, truck_numbered, truck_of, truck, IC, IDL, TC, TDA}
+use Rattle.meaning.specs.Model.{Instance, Stack, item, truck_numbered, truck_of, IC, IDL, TC, TDA}
 use Rattle.meaning.specs.Table.{stacks_in}
-use Rattle.meaning.specs.Verdict.{days_early, transport_cost, inventory_cost}
+use Rattle.meaning.specs.Verdict.{days_early, transport_cost}
 use Rattle.meaning.proofs.Lists.{drop_back, Down, down_start, down_more, down_end}
 use Rattle.meaning.proofs.Sums.{sum_drop, sum_constant}
 use Rattle.table.specs.Filled.{Filled}

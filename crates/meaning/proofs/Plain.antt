@@ -1,6 +1,6 @@
 -- What every kind of line has, where its numbers meet its form: a key on one line, some entries, and numbers below an end. Reading back asks for
 -- an end of ten digits, the length of a line for a lower one.
-use mathlib.Core.Path.{◌≡◌, refl}
+use mathlib.Core.Path.{refl}
 use mathlib.Core.Bool.{not}
 use mathlib.Core.List.{List}
 use Prim.Native.Nat.{ℕ, ◌+◌, ◌≤◌, ◌<◌}

@@ -1,27 +1,24 @@
 -- Two files are read as a model exactly when they are that model written out, in range, without a code clash and short enough.
 use mathlib.Core.Path.{◌≡◌, refl, sym, ap, ◌∙◌}
-use mathlib.Core.Bool.{true, not}
+use mathlib.Core.Bool.{true}
 use mathlib.Core.List.{List, [], ◌∷◌, ◌++◌, map, flat_map, append_assoc, append-nil}
 use Prim.Native.Nat.{ℕ, suc, ◌+◌, ◌≤◌}
 use Prim.Native.String.{String}
 use native.Mathlib.Omega.{arith}
-use lib.Dec.{leb}
 use lib.ListN.{length, get_or}
 use Rattle.meaning.specs.declared.Limits.{Limits}
-use Rattle.meaning.specs.Lists.{Every, any, all, between, listed, distinct}
+use Rattle.meaning.specs.Lists.{Every, any, between}
 use Rattle.meaning.specs.Limits.{small}
 use Rattle.meaning.specs.Text.{Form, bytes}
 use Rattle.meaning.specs.Reader.{found, Reader, give, onward, ◌>>=◌, line, times}
-use Rattle.meaning.specs.Model.{Instance, Truck, Stack, IL, IH, number, stack_number}
-use Rattle.meaning.specs.Files.{Range, ◌to◌, all_within, fields_line, identifiers_line, number_line, truck_lines, instance_lines, stack_lines, plan_lines}
-use Rattle.meaning.specs.Files.{item_ranges, item_line, truck_ranges, truck_line, stack_ranges, stack_line, load_line}
+use Rattle.meaning.specs.Model.{Instance, Truck, Stack, number}
+use Rattle.meaning.specs.Files.{Range, ◌to◌, all_within, number_line, truck_lines, instance_lines, stack_lines, plan_lines}
 use Rattle.meaning.specs.Reorder.{ended, OneLine, pair_bytes, plan_of}
 use Rattle.meaning.specs.Print.{printed_line, printed_truck, printed_instance, printed_stack, printed_plan}
 use Rattle.meaning.specs.Meets.{Meets, TruckMeets, InstanceMeets, StacksMeet, FilesMeet}
 use Rattle.meaning.specs.Claims.{Readable, TenDigitLimits, ReadExactly}
 use Rattle.meaning.proofs.Tests.{and_reads, between_reads}
 use Rattle.meaning.proofs.Lists.{every_map}
-use Rattle.meaning.proofs.Fields.{item_within, ranges_below, range_below}
 use Rattle.meaning.proofs.Outcomes.{Finds, finds_ended}
 use Rattle.meaning.proofs.ReadFiles.{Wholly, read_reads}
 use Rattle.meaning.proofs.Printed.{read_printed_lem}

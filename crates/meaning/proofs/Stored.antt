@@ -1,10 +1,9 @@
 -- The test of a table's words holds exactly when some readable pair of files fills them; and then that pair is the table's own files.
 use mathlib.Core.Path.{◌≡◌, refl, sym, ap, ap₂, subst, ◌∙◌}
 use mathlib.Core.Logic.{◌↔◌}
-use mathlib.Core.Bool.{true, false, ◌&&◌}
+use mathlib.Core.Bool.{true}
 use mathlib.Core.List.{List, [], ◌∷◌, ◌++◌}
-use Prim.Native.Nat.{ℕ, ◌≤◌}
-use native.Mathlib.Omega.{arith}
+use Prim.Native.Nat.{ℕ}
 use lib.Dec.{leb, eqb}
 use lib.ListN.{length, take, drop, take-append-drop}
 use Rattle.meaning.specs.declared.Limits.{Limits}
@@ -12,7 +11,7 @@ use Rattle.meaning.specs.Lists.{same_numbers}
 use Rattle.meaning.specs.Limits.{named}
 use Rattle.meaning.specs.Model.{Instance, Stack}
 use Rattle.meaning.specs.Table.{words, instance_in, stacks_in}
-use Rattle.meaning.specs.Check.{Reading, refused, readable, read_files, table_after}
+use Rattle.meaning.specs.Check.{Reading, refused, readable, read_files}
 use Rattle.meaning.specs.Print.{printed_instance, printed_plan}
 use Rattle.meaning.specs.Write.{instance_file, plan_file, fills_with, stored}
 use Rattle.meaning.specs.Claims.{Readable, FilledBy, FilledBySome, StoredExactly}

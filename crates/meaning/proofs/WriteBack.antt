@@ -1,20 +1,20 @@
 -- What a writing promises, by its three outcomes: a buffer too short, a table that no files fill, both files written.
-use mathlib.Core.Path.{◌≡◌, refl, sym, ap, ap₂, ◌∙◌}
-use mathlib.Core.Logic.{⊎_elim, inl, inr, ◌↔◌}
+use mathlib.Core.Path.{◌≡◌, refl, sym, ap, ◌∙◌}
+use mathlib.Core.Logic.{⊎_elim}
 use mathlib.Core.Bool.{Bool, true, false, cond, ◌||◌}
-use mathlib.Core.List.{List, ◌++◌}
-use Prim.Native.Nat.{ℕ, ◌≤◌, ◌<◌}
+use mathlib.Core.List.{List}
+use Prim.Native.Nat.{ℕ, ◌≤◌}
 use native.Mathlib.Omega.{arith}
 use borrow.Author.Tests.{ltb-false}
 use lib.Dec.{ltb}
-use lib.ListN.{length, take, drop}
+use lib.ListN.{length, drop}
 use lib.Seq.{take_at}
 use Rattle.meaning.specs.declared.Limits.{Limits}
 use Rattle.meaning.specs.Limits.{named}
 use Rattle.meaning.specs.Check.{table_after}
 use Rattle.meaning.specs.Write.{instance_file, plan_file, stored, Writing, turned_down, files, write_files, written, over, instance_after, plan_after}
-use Rattle.meaning.specs.Claims.{Readable, FilledBy, FilledBySome, Roomy, HoldsFiles, WritingPromise, WritesBack}
-use Rattle.meaning.proofs.Tests.{true≢false, decide, or_reads, or_false, lt_reads}
+use Rattle.meaning.specs.Claims.{Readable, FilledBy, FilledBySome, Roomy, WritingPromise, WritesBack}
+use Rattle.meaning.proofs.Tests.{true≢false, or_reads, or_false, lt_reads}
 use Rattle.meaning.proofs.ReadFiles.{read_reads}
 use Rattle.meaning.proofs.TableAfter.{table_after_lem}
 use Rattle.meaning.proofs.Stored.{filled_words, own_instance, own_plan, stored_exactly_lem, stored_reads}

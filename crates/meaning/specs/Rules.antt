@@ -6,7 +6,7 @@ use Rattle.std.specs.Int.Signed.{le_z}
 use Rattle.meaning.specs.declared.Place.{Place}
 use Rattle.meaning.specs.Lists.{all, any, filter, only_if, up_from, listed, order_in, order_from, between, sum}
 use Rattle.meaning.specs.Places.{place}
-use Rattle.meaning.specs.Model.{Instance, Truck, Stack, Item, item, truck_numbered, truck_of, number, truck, copy, x, y, orientation}
+use Rattle.meaning.specs.Model.{Instance, Truck, Stack, Item, item, truck_numbered, truck_of, number, x, y, orientation}
 use Rattle.meaning.specs.Model.{IS, ISM, IR, IO, IDE, IDL, IP, IU, IK, TL, TW, TMm, TP, TDA, TMM, TF, TEM, CM, CJfm, CJfc, CJfh, EM, EJhr, EMmr, EMmm}
 use Rattle.meaning.specs.Measures.{bottom, above, sl, sw, across, xe, ye, height, height_limit, weight, sm, supplier_order, supplier_dock_order, plant_dock_order, plant_docks_of}
 use Rattle.meaning.specs.Measures.{UsedTruck, another, used_trucks, stacks_on, weight_on, departures, stacks_at_departure, H}

@@ -1,20 +1,19 @@
 -- Entries at the front of their words and zeros behind them: as a test of the words, and as words that are made of the entries.
 use mathlib.Core.Path.{◌≡◌, refl, sym, ap, ap₂, ◌∙◌}
-use mathlib.Core.Bool.{Bool, true, ◌&&◌}
-use mathlib.Core.List.{List, [], ◌∷◌, ◌++◌, map, flat_map, append_assoc}
+use mathlib.Core.Bool.{true, ◌&&◌}
+use mathlib.Core.List.{List, [], ◌∷◌, ◌++◌}
 use Prim.Native.Nat.{ℕ, zero, suc, ◌+◌, ◌-◌, ◌*◌, ◌≤◌}
 use Prim.Native.String.{String}
 use native.Mathlib.Omega.{arith}
-use lib.ListN.{length, get_or, take, drop, replicate, length-append, length-take, length-drop, length-replicate, take-append-drop}
+use lib.ListN.{length, get_or, take, drop, replicate, length-take, length-drop, take-append-drop}
 use lib.Seq.{take-nil, take_at, drop_at, take-take, drop-cons}
-use Rattle.meaning.specs.Lists.{Every, all, between, distinct, chunks, padded}
+use Rattle.meaning.specs.Lists.{all, between, distinct, chunks, padded}
 use Rattle.meaning.specs.Files.{identifiers_line}
 use Rattle.meaning.specs.Table.{counted_words}
 use Rattle.meaning.specs.Meets.{Meets}
 use Rattle.meaning.proofs.Tests.{and_reads, between_reads}
-use Rattle.meaning.proofs.Lists.{all_every}
 use Rattle.meaning.proofs.Decode.{length_padded}
-use Rattle.stored.specs.Parts.{zeros, entries_stored, rows_stored}
+use Rattle.stored.specs.Parts.{zeros, entries_stored}
 use Rattle.stored.proofs.Entries.{entries_reads}
 
 -- ---- the front of a list

@@ -1,25 +1,25 @@
 -- The rows of the stacks and the words of their loads: the tests pass exactly where they are the words of stacks that meet their lines.
-use mathlib.Core.Path.{◌≡◌, refl, sym, ap, ap₂, subst, ◌∙◌}
-use mathlib.Core.Bool.{Bool, true, false, cond, not, ◌&&◌}
-use mathlib.Core.Option.{Option, none, some}
+use mathlib.Core.Path.{◌≡◌, refl, sym, ap, ap₂, ◌∙◌}
+use mathlib.Core.Bool.{Bool, true, cond, not, ◌&&◌}
+use mathlib.Core.Option.{none, some}
 use mathlib.Core.List.{List, [], ◌∷◌, ◌++◌, map, flat_map, append_assoc}
-use Prim.Native.Nat.{ℕ, zero, suc, ◌+◌, ◌-◌, ◌*◌, ◌≤◌, ◌<◌}
+use Prim.Native.Nat.{ℕ, zero, suc, ◌+◌, ◌-◌, ◌*◌, ◌≤◌}
 use native.Mathlib.Omega.{arith}
 use lib.Dec.{leb, eqb}
 use lib.ListN.{length, get_or, take, drop, length-append, length-take, length-drop, take-append-drop, drop_of_length-le}
-use lib.Seq.{take_at, drop_at, take-add, take-take, drop-drop, drop-cons, get_or-take}
+use lib.Seq.{take_at, drop_at, take-add, drop-drop, drop-cons, get_or-take}
 use Rattle.meaning.specs.Lists.{Every, all, between, listed, chunks}
 use Rattle.meaning.specs.Model.{Stack, number, stack_number}
-use Rattle.meaning.specs.Files.{all_within, stack_ranges, stack_line, load_line}
+use Rattle.meaning.specs.Files.{all_within, stack_ranges}
 use Rattle.meaning.specs.Table.{stack_words, load_entries, stack_in}
-use Rattle.meaning.specs.Meets.{Meets, StacksMeet}
-use Rattle.meaning.proofs.Tests.{true≢false, and_reads, not_reads, le_reads, eq_reads, between_reads}
+use Rattle.meaning.specs.Meets.{StacksMeet}
+use Rattle.meaning.proofs.Tests.{and_reads, le_reads, eq_reads, between_reads}
 use Rattle.meaning.proofs.Lists.{all_reads, every_reads, every_take, every_drop}
 use Rattle.meaning.proofs.Digits.{chosen}
 use Rattle.meaning.proofs.Decode.{From, past, start, word_at, one_stack_words, length_one_stack_words}
 use Rattle.table.proofs.Parts.{part_front}
 use Rattle.stored.specs.Parts.{stack_stored, entries_of}
-use Rattle.stored.proofs.Rows.{StackStored, stack_reads}
+use Rattle.stored.proofs.Rows.{stack_reads}
 
 -- a row of eight words is its six fields and two numbers
 row_eight : (row : List ℕ) → length row ≡ 8 → take 6 row ++ (get_or row 6 0 ∷ get_or row 7 0 ∷ []) ≡ row

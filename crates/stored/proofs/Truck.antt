@@ -5,7 +5,7 @@ use mathlib.Core.List.{List, [], ◌∷◌, ◌++◌, map, flat_map, append_asso
 use Prim.Native.Nat.{ℕ, zero, suc, ◌+◌, ◌-◌, ◌*◌, ◌≤◌}
 use Prim.Native.String.{String}
 use native.Mathlib.Omega.{arith}
-use lib.ListN.{length, get_or, take, drop, replicate, length-append, length-take, length-drop, length-replicate, length-map, take-append-drop}
+use lib.ListN.{length, get_or, take, drop, replicate, length-append, length-take, length-drop, length-map, take-append-drop}
 use lib.Seq.{take_at, drop_at, take-take, drop-drop}
 use Rattle.meaning.specs.Lists.{Every, all, up_from, chunks, padded}
 use Rattle.meaning.specs.Model.{Truck}
@@ -18,7 +18,7 @@ use Rattle.meaning.proofs.Decode.{From, past, drop_from, word_at, length_padded,
 use Rattle.meaning.proofs.Decode.{product_words, supplier_words, dock_count_words, dock_words, plant_dock_words, truck_size}
 use Rattle.meaning.proofs.Ranges.{truck_fits}
 use Rattle.stored.specs.Parts.{zeros, entries_stored, docks_stored, truck_stored}
-use Rattle.stored.proofs.Packed.{chunks_front, zeros_are, zeros_made, packed, unpacked, Entered, entries_up, entries_down, Listed, list_up}
+use Rattle.stored.proofs.Packed.{chunks_front, zeros_are, zeros_made, entries_up, entries_down, list_up}
 
 -- ---- the docks, supplier by supplier
 docks_in_turn : ℕ → List ℕ → List ℕ → Bool

@@ -1,30 +1,30 @@
 -- All parts together tell whether some readable pair of files fills the table.
 use mathlib.Core.Path.{◌≡◌, refl, sym, ap, ap₂, subst, ◌∙◌}
-use mathlib.Core.Bool.{Bool, true, false, ◌&&◌}
+use mathlib.Core.Bool.{true}
 use mathlib.Core.Option.{Option, none, some}
-use mathlib.Core.List.{List, [], ◌∷◌, ◌++◌, map, flat_map, append_assoc, map-id}
+use mathlib.Core.List.{List, [], ◌++◌, map, flat_map, append_assoc, map-id}
 use Prim.Native.Nat.{ℕ, zero, suc, ◌+◌, ◌-◌, ◌*◌, ◌≤◌, ◌<◌}
 use native.Mathlib.Nat.{sub-zero, mul-le-mul_left}
 use native.Mathlib.Omega.{arith}
 use lib.Dec.{leb}
-use lib.ListN.{length, get_or, take, drop, replicate, length-append, length-take, length-drop, length-map}
+use lib.ListN.{length, get_or, take, drop, replicate, length-append, length-take, length-drop}
 use lib.Seq.{take_at, take-add, take-take, get_or-take}
 use Rattle.meaning.specs.declared.Limits.{Limits}
 use Rattle.meaning.specs.declared.Place.{Place}
 use Rattle.meaning.specs.Lists.{Every, all, between, chunks, padded}
 use Rattle.meaning.specs.Limits.{named, items_at, trucks_at, stacks_at, loads_at}
-use Rattle.meaning.specs.Model.{Instance, Truck, Stack, Item}
+use Rattle.meaning.specs.Model.{Instance, Stack, Item}
 use Rattle.meaning.specs.Files.{item_line}
 use Rattle.meaning.specs.Table.{head_words, truck_words, stack_words, load_entries, words, truck_in, instance_in, stack_in, stacks_in}
 use Rattle.meaning.specs.Places.{lowest}
 use Rattle.meaning.specs.Check.{code_clashes}
 use Rattle.meaning.specs.Write.{instance_file, plan_file, stored}
-use Rattle.meaning.specs.Meets.{Meets, TruckMeets, InstanceMeets, StacksMeet, FilesMeet}
-use Rattle.meaning.specs.InRange.{HeadInRange, Fits}
+use Rattle.meaning.specs.Meets.{Meets, TruckMeets, StacksMeet, FilesMeet}
+use Rattle.meaning.specs.InRange.{Fits}
 use Rattle.meaning.specs.Claims.{Readable, TenDigitLimits, FilledBy}
 use Rattle.meaning.proofs.Tests.{true≢false, and_reads, le_reads, same_test}
 use Rattle.meaning.proofs.Lists.{every_map}
-use Rattle.meaning.proofs.Decode.{From, past, start, from_items, from_trucks, from_stacks, from_loads, long_table, items_begin, trucks_begin, stacks_begin, loads_begin}
+use Rattle.meaning.proofs.Decode.{from_trucks, from_stacks, from_loads, long_table, items_begin, trucks_begin, stacks_begin, loads_begin}
 use Rattle.meaning.proofs.Decode.{length_padded, length_runs, chunks_runs, truck_size, length_stack_words, decodes}
 use Rattle.meaning.proofs.Ranges.{meets_fits, read_meets}
 use Rattle.meaning.proofs.InRange.{files_in_range}

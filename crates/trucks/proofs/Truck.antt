@@ -12,7 +12,7 @@ use Rattle.lines.specs.declared.Progress.{Progress}
 use Rattle.lines.specs.declared.EntriesAnswer.{EntriesAnswer}
 use Rattle.lines.specs.Progress.{reached, resumed, ReadInto, ReadEntries}
 use Rattle.lines.proofs.Follow.{past_reader, given_reached, no_refusal, same_resumed}
-use Rattle.lines.proofs.Judging.{read_count, few_entries_lem}
+use Rattle.lines.proofs.Judging.{read_count}
 use Rattle.trucks.specs.Rows.{dock_words}
 use Rattle.trucks.proofs.Repeat.{Front}
 

@@ -13,9 +13,8 @@ ghost use Rattle.views.specs.Views.{position_of, PositionInRange, extent_of, foo
 ghost use Rattle.views.specs.Views.{plant_dock_orders, range_with, range_of, rank_of, plant_docks_from};
 
 use meaning::Limits;
-use table::fields;
 use table::{
-    docks, item_field, load, order_in, plant_docks, stack_field, stack_truck, suppliers,
+    docks, fields, item_field, load, order_in, plant_docks, stack_field, stack_truck, suppliers,
     truck_field,
 };
 
@@ -203,7 +202,13 @@ pub fn supplier_dock_order(t: &[u32], limits: Limits, truck: u32, n: u32) -> usi
         (IU (item (instance_in limits t.now) n))) (IK (item (instance_in limits t.now) n))) × (result ≤ 8) }
 {
     let supplier = supplier_order(t, limits, truck, item_field(t, limits, n, fields::IU));
-    dock_order(t, limits, truck, supplier, item_field(t, limits, n, fields::IK))
+    dock_order(
+        t,
+        limits,
+        truck,
+        supplier,
+        item_field(t, limits, n, fields::IK),
+    )
 }
 
 // The loading order of an item's plant dock.
@@ -212,7 +217,10 @@ pub fn plant_dock_order(t: &[u32], limits: Limits, truck: u32, n: u32) -> usize
     ensures { (result ≡ order_in (truck_numbered (instance_in limits t.now) truck).plant_docks
         (IG (item (instance_in limits t.now) n))) × (result ≤ 8) }
 {
-    order_in(plant_docks(t, limits, truck), item_field(t, limits, n, fields::IG))
+    order_in(
+        plant_docks(t, limits, truck),
+        item_field(t, limits, n, fields::IG),
+    )
 }
 
 // The lowest and the highest of some loading orders.

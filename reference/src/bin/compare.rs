@@ -1,5 +1,5 @@
 //! Compares the definitions of `crates/meaning` with the reference, by computation in the proof kernel: for each case a
-//! theorem that the definition computes to the reference's result, proved by reflexivity in a crate under `target/`.
+//! theorem that the definition computes to the reference's result, proved by reflexivity in a crate of its own in the folder for temporary files.
 //!
 //! Compared are the answer of every case, the part that is handed back for every unreadable file, and the whole table
 //! afterwards for the first cases. A short table and files of the most bytes and one more are added to the cases.
@@ -95,7 +95,7 @@ fn parse(arguments: &[String]) -> Option<Order> {
 /// True where every case agrees.
 fn compare(order: &Order) -> Result<bool, String> {
     let cases = read_cases(order)?;
-    let scratch = PathBuf::from("target/compare");
+    let scratch = std::env::temp_dir().join("kaqlluwe-compare");
     copy_definitions(&scratch)?;
     let mut differing = BTreeSet::new();
     // A case agrees only where a run with its theorems was proved, so those that fail are left out and the rest runs again.

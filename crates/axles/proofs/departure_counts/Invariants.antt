@@ -1,8 +1,6 @@
 -- No stack passed so far is on, so the departure counts exactly where one of those left is.
-use mathlib.Core.Path.{refl}
 use Prim.Native.Nat.{◌-◌}
-use borrow.Author.Rules.{rules}
-use Rattle.axles.proofs.Places.{NoneBefore, none_on, on_here, none_here}
+use Rattle.axles.proofs.Places.{NoneBefore}
 use Rattle.axles.proofs.departure_counts.Given as goal
 
 -- No stack passed so far is on, so the departure counts exactly where one of those left is.

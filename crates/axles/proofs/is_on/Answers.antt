@@ -1,6 +1,5 @@
 -- The word of the row is the supplier's loading order, and it is compared as `between` does.
 use mathlib.Core.Path.{ap}
-use borrow.Author.Rules.{rules}
 use Rattle.meaning.specs.Lists.{between}
 use Rattle.axles.proofs.is_on.Goals as goal
 

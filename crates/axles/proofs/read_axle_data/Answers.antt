@@ -1,6 +1,5 @@
 -- The fields of the truck's line.
 use mathlib.Core.Path.{refl}
-use borrow.Author.Rules.{rules}
 use Rattle.axles.proofs.read_axle_data.Goals as goal
 
 pub returns : goal.returns

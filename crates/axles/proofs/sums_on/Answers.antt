@@ -18,40 +18,34 @@ term_of-term-requires c = (search rules, c.requires.0.each (c.loop-k.k - 1) (ome
 
 pub overflow_add-weight : goal.overflow_add-weight
 overflow_add-weight c =
-    let more : 
-    
+    let more :
     SumsFrom c.args.rows.now c.args.departure c.args.twice c.args.on.start (c.loop-k.k - 1) c.args.on.end (c.term_of-term.result.weight + c.loop-k.weight)
     (to_z w64 (of_z w64 c.term_of-term.result.levers) +ℤ to_z w64 c.loop-k.levers-bits) =
-        
-        let fits : SFits w64 c.term_of-term.result.levers = search rules in
-        sums_more c.loop-k.invariant c.loop-k-test.true c.term_of-term.ensures.0 (stored fits c.term_of-term.ensures.1) in
+    let fits : SFits w64 c.term_of-term.result.levers = search rules in
+    sums_more c.loop-k.invariant c.loop-k-test.true c.term_of-term.ensures.0 (stored fits c.term_of-term.ensures.1) in
     let m = more.weight in
     omega (arith, m.is, weight_size c.requires.0 c.args.departure _ m.upto)
 
 pub overflow_add-levers : goal.overflow_add-levers
 overflow_add-levers c =
-    let more : 
-    
+    let more :
     SumsFrom c.args.rows.now c.args.departure c.args.twice c.args.on.start (c.loop-k.k - 1) c.args.on.end (c.term_of-term.result.weight + c.loop-k.weight)
     (to_z w64 (of_z w64 c.term_of-term.result.levers) +ℤ to_z w64 c.loop-k.levers-bits) =
-        
-        let fits : SFits w64 c.term_of-term.result.levers = search rules in
-        sums_more c.loop-k.invariant c.loop-k-test.true c.term_of-term.ensures.0 (stored fits c.term_of-term.ensures.1) in
+    let fits : SFits w64 c.term_of-term.result.levers = search rules in
+    sums_more c.loop-k.invariant c.loop-k-test.true c.term_of-term.ensures.0 (stored fits c.term_of-term.ensures.1) in
     let m = more.levers in
     rw m.is (in_range_lem _ (levers_size c.requires.0 c.args.departure _ m.upto c.args.twice c.requires.1) tt)
 
 pub loop-k-preserved : goal.loop-k-preserved
 loop-k-preserved c =
-    let more : 
-    
+    let more :
     SumsFrom c.args.rows.now c.args.departure c.args.twice c.args.on.start (c.loop-k.k - 1) c.args.on.end (c.term_of-term.result.weight + c.loop-k.weight)
     (to_z w64 (of_z w64 c.term_of-term.result.levers) +ℤ to_z w64 c.loop-k.levers-bits) =
-        
-        let fits : SFits w64 c.term_of-term.result.levers = search rules in
-        sums_more c.loop-k.invariant c.loop-k-test.true c.term_of-term.ensures.0 (stored fits c.term_of-term.ensures.1) in
+    let fits : SFits w64 c.term_of-term.result.levers = search rules in
+    sums_more c.loop-k.invariant c.loop-k-test.true c.term_of-term.ensures.0 (stored fits c.term_of-term.ensures.1) in
     let m = more.levers in
     let fits : SFits w64 (to_z w64 (of_z w64 c.term_of-term.result.levers) +ℤ to_z w64 c.loop-k.levers-bits) =
-        rw m.is (in_range_lem _ (levers_size c.requires.0 c.args.departure _ m.upto c.args.twice c.requires.1) tt) in
+    rw m.is (in_range_lem _ (levers_size c.requires.0 c.args.departure _ m.upto c.args.twice c.requires.1) tt) in
     rw (to_z-of_z {w = w64} {z = to_z w64 (of_z w64 c.term_of-term.result.levers) +ℤ to_z w64 c.loop-k.levers-bits} fits) more
 
 pub returns : goal.returns

@@ -2,10 +2,8 @@
 use mathlib.Core.Path.{refl, ap₂}
 use Prim.Native.Nat.{◌+◌, ◌-◌}
 use native.Mathlib.Omega.{arith}
-use borrow.Author.Rules.{rules}
 use Rattle.meaning.specs.Lists.{sum}
-use Rattle.axles.specs.Weights.{weight_of}
-use Rattle.axles.proofs.Places.{SumFrom, sum_start, sum_more, sum_end}
+use Rattle.axles.proofs.Places.{sum_start, sum_more, sum_end}
 use Rattle.axles.proofs.total_weight.Goals as goal
 
 pub loop-k-init : goal.loop-k-init
@@ -15,8 +13,12 @@ loop-k-init c = sum_start c.requires.ordered refl
 pub overflow_add-weight : goal.overflow_add-weight
 unfolding sum
 overflow_add-weight c =
-    omega (arith, ((
-    sum_more c.loop-k.invariant (omega arith) (ap₂ ◌+◌ c.row_word.ensures c.loop-k.invariant.is))).is, c.requires.weights (c.loop-k.k - 1) (omega (arith, c.loop-k.invariant.upto)))
+    omega (
+      arith,
+      ((
+          sum_more c.loop-k.invariant (omega arith) (ap₂ ◌+◌ c.row_word.ensures c.loop-k.invariant.is))).is,
+      c.requires.weights (c.loop-k.k - 1) (omega (arith, c.loop-k.invariant.upto)),
+    )
 
 pub loop-k-preserved : goal.loop-k-preserved
 unfolding sum

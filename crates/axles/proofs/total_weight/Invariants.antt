@@ -1,11 +1,6 @@
 -- The sum is that of the places from k on, which is within the bound of all, so it fits.
-use mathlib.Core.Path.{refl, ap₂}
-use Prim.Native.Nat.{◌+◌, ◌-◌}
-use native.Mathlib.Omega.{arith}
-use borrow.Author.Rules.{rules}
-use Rattle.meaning.specs.Lists.{sum}
 use Rattle.axles.specs.Weights.{weight_of}
-use Rattle.axles.proofs.Places.{SumFrom, sum_start, sum_more, sum_end}
+use Rattle.axles.proofs.Places.{SumFrom}
 use Rattle.axles.proofs.total_weight.Given as goal
 
 -- The sum is that of the places from k on, which is within the bound of all, so it fits.

@@ -2,15 +2,13 @@
 use mathlib.Core.Path.{◌≡◌, ap, ◌∙◌}
 use native.Mathlib.Omega.{arith}
 use lib.ListN.{length}
-use Rattle.meaning.specs.Measures.{UsedTruck, used_by}
+use Rattle.meaning.specs.Measures.{used_by}
 use Rattle.meaning.specs.Table.{instance_in, stacks_in}
 use Rattle.table.specs.Filled.{TruckNumber}
 use Rattle.manifest.specs.Manifest.{manifest_at}
-use Rattle.axles.specs.Weights.{BoundedRows, BoundedAxles, middle_under, rear_under}
 use Rattle.manifest.proofs.Reading.{word_is, truck_is}
 use Rattle.axles.proofs.Rows.{rows_bounded, axles_bounded}
-use Rattle.axles.proofs.Departures.{AxleFrom, axle_start, axle_more, lowest_are}
-use borrow.Author.Rules.{rules}
+use Rattle.axles.proofs.Departures.{axle_start, axle_more, lowest_are}
 use Rattle.axles.proofs.truck_weights.Goals as goal
 
 pub total_weight-requires : goal.total_weight-requires
@@ -18,56 +16,50 @@ total_weight-requires c = rows_bounded c.requires.0 c.requires.1
 
 pub truck_field-requires : goal.truck_field-requires
 truck_field-requires c =
-    let known : 
+    let known :
     let i = instance_in c.args.limits c.args.t.now in
     (c.row_word-truck.result ≡ (used_by (manifest_at (stacks_in c.args.limits c.args.t.now) c.args.on.start)).truck) × TruckNumber i c.row_word-truck.result =
-        
-        rw c.row_word-truck.ensures (truck_is c.requires.0 c.args.on.start (omega (arith, c.requires.1.some, c.requires.1.within))) in
+    rw c.row_word-truck.ensures (truck_is c.requires.0 c.args.on.start (omega (arith, c.requires.1.some, c.requires.1.within))) in
     (c.requires.0.filled, known.1, omega arith)
 
 pub read_axle_data-axles-requires : goal.read_axle_data-axles-requires
 read_axle_data-axles-requires c =
-    let known : 
+    let known :
     let i = instance_in c.args.limits c.args.t.now in
     (c.row_word-truck.result ≡ (used_by (manifest_at (stacks_in c.args.limits c.args.t.now) c.args.on.start)).truck) × TruckNumber i c.row_word-truck.result =
-        
-        rw c.row_word-truck.ensures (truck_is c.requires.0 c.args.on.start (omega (arith, c.requires.1.some, c.requires.1.within))) in
+    rw c.row_word-truck.ensures (truck_is c.requires.0 c.args.on.start (omega (arith, c.requires.1.some, c.requires.1.within))) in
     (c.requires.0.filled, known.1)
 
 pub suppliers-list-requires : goal.suppliers-list-requires
 suppliers-list-requires c =
-    let known : 
+    let known :
     let i = instance_in c.args.limits c.args.t.now in
     (c.row_word-truck.result ≡ (used_by (manifest_at (stacks_in c.args.limits c.args.t.now) c.args.on.start)).truck) × TruckNumber i c.row_word-truck.result =
-        
-        rw c.row_word-truck.ensures (truck_is c.requires.0 c.args.on.start (omega (arith, c.requires.1.some, c.requires.1.within))) in
+    rw c.row_word-truck.ensures (truck_is c.requires.0 c.args.on.start (omega (arith, c.requires.1.some, c.requires.1.within))) in
     (c.requires.0.filled, known.1)
 
 pub loop-departure-init : goal.loop-departure-init
 loop-departure-init c =
-    let known : 
+    let known :
     let i = instance_in c.args.limits c.args.t.now in
     (c.row_word-truck.result ≡ (used_by (manifest_at (stacks_in c.args.limits c.args.t.now) c.args.on.start)).truck) × TruckNumber i c.row_word-truck.result =
-        
-        rw c.row_word-truck.ensures (truck_is c.requires.0 c.args.on.start (omega (arith, c.requires.1.some, c.requires.1.within))) in
+    rw c.row_word-truck.ensures (truck_is c.requires.0 c.args.on.start (omega (arith, c.requires.1.some, c.requires.1.within))) in
     (rows_bounded c.requires.0 c.requires.1, rw c.read_axle_data-axles.ensures (axles_bounded c.requires.0.filled known.1), axle_start, axle_start)
 
 pub loop-departure-preserved : goal.loop-departure-preserved
-loop-departure-preserved c =
-    (
-      c.loop-departure.invariant.0,
-      c.loop-departure.invariant.1,
-      axle_more c.loop-departure.invariant.2 c.loop-departure-test.true c.exceeded_axles-exceeded.ensures.0 c.place_if.ensures c.lower_of-middle.ensures,
-      axle_more c.loop-departure.invariant.3 c.loop-departure-test.true c.exceeded_axles-exceeded.ensures.1 c.place_if-in-loop-departure.ensures c.lower_of-rear.ensures,
-    )
+loop-departure-preserved c = (
+  c.loop-departure.invariant.0,
+  c.loop-departure.invariant.1,
+  axle_more c.loop-departure.invariant.2 c.loop-departure-test.true c.exceeded_axles-exceeded.ensures.0 c.place_if.ensures c.lower_of-middle.ensures,
+  axle_more c.loop-departure.invariant.3 c.loop-departure-test.true c.exceeded_axles-exceeded.ensures.1 c.place_if-in-loop-departure.ensures c.lower_of-rear.ensures,
+)
 
 pub returns : goal.returns
 returns c =
-    let known : 
+    let known :
     let i = instance_in c.args.limits c.args.t.now in
     (c.row_word-truck.result ≡ (used_by (manifest_at (stacks_in c.args.limits c.args.t.now) c.args.on.start)).truck) × TruckNumber i c.row_word-truck.result =
-        
-        rw c.row_word-truck.ensures (truck_is c.requires.0 c.args.on.start (omega (arith, c.requires.1.some, c.requires.1.within))) in
+    rw c.row_word-truck.ensures (truck_is c.requires.0 c.args.on.start (omega (arith, c.requires.1.some, c.requires.1.within))) in
     let same_copy = c.row_word-copy.ensures ∙ word_is c.requires.0 c.args.on.start (omega (arith, c.requires.1.some, c.requires.1.within)) 3 (omega arith) in
     lowest_are c.requires.0 c.requires.1 (λ z. record { truck = known.0 z; copy = same_copy z }) c.read_axle_data-axles.ensures
     (ap length c.suppliers-list.ensures.0) c.total_weight.ensures c.truck_field.ensures.0 c.place_if-2.ensures

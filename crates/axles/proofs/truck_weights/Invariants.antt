@@ -1,16 +1,7 @@
 -- The loop keeps the lowest places of the departures after the current one; all stacks are on one used truck.
-use mathlib.Core.Path.{◌≡◌, ap, ◌∙◌}
-use native.Mathlib.Omega.{arith}
-use lib.ListN.{length}
-use Rattle.meaning.specs.Measures.{UsedTruck, used_by}
-use Rattle.meaning.specs.Table.{instance_in, stacks_in}
-use Rattle.table.specs.Filled.{TruckNumber}
-use Rattle.manifest.specs.Manifest.{manifest_at}
+use Rattle.meaning.specs.Measures.{UsedTruck}
 use Rattle.axles.specs.Weights.{BoundedRows, BoundedAxles, middle_under, rear_under}
-use Rattle.manifest.proofs.Reading.{word_is, truck_is}
-use Rattle.axles.proofs.Rows.{rows_bounded, axles_bounded}
-use Rattle.axles.proofs.Departures.{AxleFrom, axle_start, axle_more, lowest_are}
-use borrow.Author.Rules.{rules}
+use Rattle.axles.proofs.Departures.{AxleFrom}
 use Rattle.axles.proofs.truck_weights.Given as goal
 
 -- The loop keeps the lowest places of the departures after the current one; all stacks are on one used truck.

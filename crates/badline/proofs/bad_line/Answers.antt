@@ -1,6 +1,5 @@
 -- What is handed back are the bytes of the part, which lies within its file.
 use mathlib.Core.Path.{sym, subst}
-use borrow.Author.Rules.{rules}
 use Rattle.badline.specs.Located.{part_of}
 use Rattle.badline.proofs.Parts.{Within, handed_within, bytes_plan, bytes_instance, pointer_plan, pointer_instance, within_plan, within_instance}
 use Rattle.badline.proofs.bad_line.Goals as goal
@@ -8,43 +7,37 @@ use Rattle.badline.proofs.bad_line.Goals as goal
 pub slice_bounds-result-count : goal.slice_bounds-result-count
 slice_bounds-result-count c =
     let within : Within c.args.instance.now c.args.plan.now (part_of c.locate-part.result) =
-        
-        subst (Within c.args.instance.now c.args.plan.now) (sym c.locate-part.ensures) (handed_within c.args.instance.now c.args.plan.now c.args.number c.args.line) in
+    subst (Within c.args.instance.now c.args.plan.now) (sym c.locate-part.ensures) (handed_within c.args.instance.now c.args.plan.now c.args.number c.args.line) in
     within.forward
 
 pub slice_bounds-result-start : goal.slice_bounds-result-start
 slice_bounds-result-start c =
     let within : Within c.args.instance.now c.args.plan.now (part_of c.locate-part.result) =
-        
-        subst (Within c.args.instance.now c.args.plan.now) (sym c.locate-part.ensures) (handed_within c.args.instance.now c.args.plan.now c.args.number c.args.line) in
+    subst (Within c.args.instance.now c.args.plan.now) (sym c.locate-part.ensures) (handed_within c.args.instance.now c.args.plan.now c.args.number c.args.line) in
     within.forward
 
 pub slice_bounds-result-end : goal.slice_bounds-result-end
 slice_bounds-result-end c =
     let within : Within c.args.instance.now c.args.plan.now (part_of c.locate-part.result) =
-        
-        subst (Within c.args.instance.now c.args.plan.now) (sym c.locate-part.ensures) (handed_within c.args.instance.now c.args.plan.now c.args.number c.args.line) in
+    subst (Within c.args.instance.now c.args.plan.now) (sym c.locate-part.ensures) (handed_within c.args.instance.now c.args.plan.now c.args.number c.args.line) in
     within_plan within c.if-part.true
 
 pub slice_bounds-result-count-else-part : goal.slice_bounds-result-count-else-part
 slice_bounds-result-count-else-part c =
     let within : Within c.args.instance.now c.args.plan.now (part_of c.locate-part.result) =
-        
-        subst (Within c.args.instance.now c.args.plan.now) (sym c.locate-part.ensures) (handed_within c.args.instance.now c.args.plan.now c.args.number c.args.line) in
+    subst (Within c.args.instance.now c.args.plan.now) (sym c.locate-part.ensures) (handed_within c.args.instance.now c.args.plan.now c.args.number c.args.line) in
     within.forward
 
 pub slice_bounds-result-start-else-part : goal.slice_bounds-result-start-else-part
 slice_bounds-result-start-else-part c =
     let within : Within c.args.instance.now c.args.plan.now (part_of c.locate-part.result) =
-        
-        subst (Within c.args.instance.now c.args.plan.now) (sym c.locate-part.ensures) (handed_within c.args.instance.now c.args.plan.now c.args.number c.args.line) in
+    subst (Within c.args.instance.now c.args.plan.now) (sym c.locate-part.ensures) (handed_within c.args.instance.now c.args.plan.now c.args.number c.args.line) in
     within.forward
 
 pub slice_bounds-result-end-else-part : goal.slice_bounds-result-end-else-part
 slice_bounds-result-end-else-part c =
     let within : Within c.args.instance.now c.args.plan.now (part_of c.locate-part.result) =
-        
-        subst (Within c.args.instance.now c.args.plan.now) (sym c.locate-part.ensures) (handed_within c.args.instance.now c.args.plan.now c.args.number c.args.line) in
+    subst (Within c.args.instance.now c.args.plan.now) (sym c.locate-part.ensures) (handed_within c.args.instance.now c.args.plan.now c.args.number c.args.line) in
     within_instance within c.if-part.false
 
 pub returns-then-part : goal.returns-then-part

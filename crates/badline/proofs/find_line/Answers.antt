@@ -1,10 +1,7 @@
 -- The walk goes from line to line; each step leaves the line that is looked for where it was.
-use Prim.Native.Nat.{◌-◌}
 use native.Mathlib.Omega.{arith}
-use borrow.Author.Rules.{rules}
-use lib.ListN.{length}
 use Rattle.text.proofs.Bytes.{found_within}
-use Rattle.badline.proofs.Spans.{Walk, walk_begins, walk_ends, walk_found, walk_on, no_such_line}
+use Rattle.badline.proofs.Spans.{walk_begins, walk_ends, walk_found, walk_on, no_such_line}
 use Rattle.badline.proofs.find_line.Goals as goal
 
 pub returns-then-line-eq0 : goal.returns-then-line-eq0

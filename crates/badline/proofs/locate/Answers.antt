@@ -1,8 +1,7 @@
 -- The number chooses the file; the line's place there is what the meaning hands back.
 use mathlib.Core.Path.{◌∙◌}
-use mathlib.Core.Logic.{⊎_elim, inl, inr}
+use mathlib.Core.Logic.{inl, inr}
 use mathlib.Core.Bool.{true, false}
-use borrow.Author.Rules.{rules}
 use Rattle.badline.proofs.Parts.{Other, of_instance, of_plan, of_neither, placed}
 use native.Mathlib.Omega.{arith}
 use Rattle.badline.proofs.locate.Goals as goal
@@ -21,9 +20,9 @@ returns-in-7 c =
 pub returns-in_default : goal.returns-in_default
 returns-in_default c =
     let other : Other c.args.number =
-        elim c.in_default.branch [
-          in_default-via-then-number-lt4 w ↦ inl (omega arith)
-        | in_default-via-else-number-lt4+else-number-lt6+then-number-lt7 w ↦ inr (inl (omega arith, omega arith))
-        | in_default-via-else-number-lt4+else-number-lt6+else-number-lt7+else-number-lt9 w ↦ inr (inr (omega arith))
-        ] in
+    elim c.in_default.branch [
+      | in_default-via-then-number-lt4 w ↦ inl (omega arith)
+      | in_default-via-else-number-lt4+else-number-lt6+then-number-lt7 w ↦ inr (inl (omega arith, omega arith))
+      | in_default-via-else-number-lt4+else-number-lt6+else-number-lt7+else-number-lt9 w ↦ inr (inr (omega arith))
+    ] in
     c.part_found-in_default.ensures ∙ of_neither c.args.instance.now c.args.plan.now c.args.number c.args.line other

@@ -1,5 +1,4 @@
 -- The two cases of a line that was looked for.
-use borrow.Author.Rules.{rules}
 use Rattle.badline.proofs.part_found.Goals as goal
 
 pub returns-in-At : goal.returns-in-At

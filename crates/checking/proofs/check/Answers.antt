@@ -1,6 +1,5 @@
 -- What reading refuses is the answer, and the rules decide on readable files.
 use Rattle.checking.proofs.Promise.{judged, declined}
-use borrow.Author.Rules.{rules}
 use Rattle.checking.proofs.check.Goals as goal
 
 pub verdict-requires : goal.verdict-requires

@@ -1,6 +1,5 @@
 -- The limits of document 01, with scratch to match: there is room for as many items and stacks as a filled table has.
 use native.Mathlib.Omega.{arith}
-use borrow.Author.Rules.{rules}
 use Rattle.checking.proofs.verdict.Goals as goal
 
 pub judge-requires : goal.judge-requires

@@ -1,10 +1,7 @@
 -- `costs::inventory_sum`: what is summed is the cost of the stacks from the current one on.
-use native.Mathlib.Omega.{arith}
-use borrow.Author.Rules.{rules}
 use Rattle.meaning.specs.Table.{instance_in, stacks_in}
 use Rattle.meaning.specs.Verdict.{inventory_cost}
-use Rattle.table.specs.Filled.{no_stack}
-use Rattle.costs.proofs.Costs.{Summed, summed_start, summed_more, summed_room, summed_end, stack_bound, plan_bound}
+use Rattle.costs.proofs.Costs.{Summed, stack_bound}
 use Rattle.costs.proofs.inventory_sum.Given as goal
 
 -- `costs::inventory_sum`: what is summed is the cost of the stacks from the current one on.

@@ -1,7 +1,6 @@
 -- `costs::item_inventory`: the day cost times the days, which fit.
 use mathlib.Core.Path.{refl}
 use native.Mathlib.Omega.{arith}
-use borrow.Author.Rules.{rules}
 use Rattle.costs.proofs.Costs.{item_bound_lem}
 use Rattle.costs.proofs.item_inventory.Goals as goal
 

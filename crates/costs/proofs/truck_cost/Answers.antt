@@ -1,6 +1,5 @@
 -- `costs::truck_cost`: the planned truck and an extra one by the two lines of the definition.
 use native.Mathlib.Omega.{arith}
-use borrow.Author.Rules.{rules}
 use Rattle.meaning.specs.Table.{instance_in}
 use Rattle.costs.proofs.Costs.{planned_cost, extra_cost, truck_bound}
 use Rattle.costs.proofs.truck_cost.Goals as goal

@@ -3,7 +3,6 @@ use mathlib.Core.Path.{◌≡◌, refl, ap, ◌∙◌}
 use Prim.Native.Nat.{ℕ}
 use native.Mathlib.Omega.{arith}
 use lib.ListN.{length, replicate, length-set}
-use borrow.Author.Rules.{rules}
 use Rattle.lines.specs.Progress.{at_start}
 use Rattle.instance.proofs.HeadLines.{head_numbers, head_says, head_words_lem}
 use Rattle.instance.proofs.read_head.Goals as goal
@@ -14,31 +13,31 @@ head_line-trucks-requires c = (c.requires.0, c.head_line-items.ensures.within.0,
 pub bounds-part-0 : goal.bounds-part-0
 bounds-part-0 c =
     let long : length c.clear.new.words ≡ 16 =
-        c.clear.auto.words ∙ c.requires.1 in
+    c.clear.auto.words ∙ c.requires.1 in
     omega (arith, long)
 
 pub bounds-part-1 : goal.bounds-part-1
 bounds-part-1 c =
     let long : length c.clear.new.words ≡ 16 =
-        c.clear.auto.words ∙ c.requires.1 in
+    c.clear.auto.words ∙ c.requires.1 in
     simp length-set (omega (arith, long))
 
 pub bounds-part-2 : goal.bounds-part-2
 bounds-part-2 c =
     let long : length c.clear.new.words ≡ 16 =
-        c.clear.auto.words ∙ c.requires.1 in
+    c.clear.auto.words ∙ c.requires.1 in
     simp length-set (omega (arith, long))
 
 pub bounds-part-3 : goal.bounds-part-3
 bounds-part-3 c =
     let long : length c.clear.new.words ≡ 16 =
-        c.clear.auto.words ∙ c.requires.1 in
+    c.clear.auto.words ∙ c.requires.1 in
     simp length-set (omega (arith, long))
 
 pub bounds-part-4 : goal.bounds-part-4
 bounds-part-4 c =
     let long : length c.clear.new.words ≡ 16 =
-        c.clear.auto.words ∙ c.requires.1 in
+    c.clear.auto.words ∙ c.requires.1 in
     simp length-set (omega (arith, long))
 
 pub shape_of-part : goal.shape_of-part

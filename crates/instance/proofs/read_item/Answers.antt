@@ -1,7 +1,6 @@
 -- `read_item`: the line fills the 16 words, so that the test on the words is the form's.
 use mathlib.Core.Path.{refl, sym}
 use native.Mathlib.Omega.{arith}
-use borrow.Author.Rules.{rules}
 use Rattle.meaning.specs.Files.{item_line}
 use Rattle.lines.proofs.Judging.{full_read}
 use Rattle.instance.proofs.Items.{item_refuses_largest}

@@ -1,12 +1,9 @@
 -- `read_items`: so far k items are read, and their words stand in front of zeros.
-use mathlib.Core.Path.{◌≡◌, refl, sym, ap, ◌∙◌}
+use mathlib.Core.Path.{refl, sym, ap, ◌∙◌}
 use Prim.Native.Nat.{ℕ, ◌+◌, ◌-◌, ◌*◌}
 use native.Mathlib.Omega.{arith}
-use lib.ListN.{length, replicate}
-use borrow.Author.Rules.{rules}
-use Rattle.meaning.specs.Reader.{line}
-use Rattle.meaning.specs.Files.{item_line}
-use Rattle.trucks.proofs.Repeat.{Repeat, Runs, first, next, done}
+use lib.ListN.{replicate}
+use Rattle.trucks.proofs.Repeat.{first, next, done}
 use Rattle.instance.proofs.read_items.Goals as goal
 
 pub loop-k-init : goal.loop-k-init

@@ -1,12 +1,10 @@
 -- `read_items`: so far k items are read, and their words stand in front of zeros.
-use mathlib.Core.Path.{◌≡◌, refl, sym, ap, ◌∙◌}
-use Prim.Native.Nat.{ℕ, ◌+◌, ◌-◌, ◌*◌}
-use native.Mathlib.Omega.{arith}
-use lib.ListN.{length, replicate}
-use borrow.Author.Rules.{rules}
+use mathlib.Core.Path.{◌≡◌}
+use Prim.Native.Nat.{◌-◌}
+use lib.ListN.{length}
 use Rattle.meaning.specs.Reader.{line}
 use Rattle.meaning.specs.Files.{item_line}
-use Rattle.trucks.proofs.Repeat.{Repeat, Runs, first, next, done}
+use Rattle.trucks.proofs.Repeat.{Repeat, Runs}
 use Rattle.instance.proofs.read_items.Given as goal
 
 -- `read_items`: so far k items are read, and their words stand in front of zeros.

@@ -1,5 +1,4 @@
 -- `judging::accept`: the cost and the count are those of the definition.
-use borrow.Author.Rules.{rules}
 use Rattle.judging.proofs.Cost.{accepted}
 use Rattle.judging.proofs.accept.Goals as goal
 

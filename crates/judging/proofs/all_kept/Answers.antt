@@ -1,5 +1,4 @@
 -- `judging::all_kept`: each search found nothing.
-use borrow.Author.Rules.{rules}
 use mathlib.Core.Path.{refl}
 use Rattle.judging.proofs.Verdicts.{told_nothing}
 use Rattle.judging.proofs.all_kept.Goals as goal

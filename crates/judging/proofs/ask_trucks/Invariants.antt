@@ -1,12 +1,8 @@
 -- `judging::ask_trucks`: what the used trucks from the current place on answer is right, and no truck has stacks on both sides of it.
-use borrow.Author.Rules.{rules}
 use Rattle.meaning.specs.Table.{instance_in, stacks_in}
-use Rattle.judging.proofs.Told.{Told, told_start, told_more, told_end, truck_told, one_truck, few_stacks}
+use Rattle.judging.proofs.Told.{Told}
 use lib.ListN.{length}
-use mathlib.Core.Path.{◌≡◌, refl, ◌∙◌}
-use native.Mathlib.Omega.{arith}
-use Rattle.manifest.specs.Manifest.{block, HoldsRows, OneTruck, Parted}
-use Rattle.placement.proofs.Placing.{truck_rows, placed_stacks}
+use mathlib.Core.Path.{◌≡◌}
 use Rattle.judging.proofs.ask_trucks.Given as goal
 
 -- `judging::ask_trucks`: what the used trucks from the current place on answer is right, and no truck has stacks on both sides of it.

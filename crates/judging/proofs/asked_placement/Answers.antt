@@ -1,7 +1,6 @@
 -- `judging::asked_placement`: what is not asked is not told.
 use mathlib.Core.Path.{refl, sym, ◌∙◌}
 use Rattle.meaning.proofs.Tests.{true≢false}
-use borrow.Author.Rules.{rules}
 use Rattle.judging.proofs.asked_placement.Goals as goal
 
 pub returns : goal.returns

@@ -1,5 +1,4 @@
 -- `judging::asked_single_pair`: what is not asked is not told.
-use borrow.Author.Rules.{rules}
 use mathlib.Core.Path.{sym, ◌∙◌}
 use Rattle.meaning.proofs.Tests.{true≢false}
 use Rattle.judging.proofs.asked_single_pair.Goals as goal

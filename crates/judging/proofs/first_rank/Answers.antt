@@ -1,8 +1,6 @@
 -- `judging::first_rank`: the rules before the current rank are told to be kept.
-use borrow.Author.Rules.{rules}
-use mathlib.Core.Path.{◌≡◌, sym, ◌∙◌}
-use Prim.Native.Nat.{◌-◌}
-use Rattle.judging.proofs.Verdicts.{KeptTo, kept_start, kept_on, kept_until, kept_whole, all_kept_to, told_of}
+use mathlib.Core.Path.{sym, ◌∙◌}
+use Rattle.judging.proofs.Verdicts.{kept_start, kept_on, kept_until, kept_whole, all_kept_to, told_of}
 use Rattle.judging.proofs.first_rank.Goals as goal
 
 pub returns-then-all_kept : goal.returns-then-all_kept

@@ -1,5 +1,4 @@
 -- `judging::is_kept`: by the kind of the rule.
-use borrow.Author.Rules.{rules}
 use Rattle.judging.proofs.Verdicts.{kept_told}
 use Rattle.judging.proofs.is_kept.Goals as goal
 

@@ -1,5 +1,4 @@
 -- `judging::judge`: rule 9 comes first in the table, and the loading rules follow.
-use borrow.Author.Rules.{rules}
 use mathlib.Core.Path.{◌∙◌}
 use Rattle.meaning.specs.Table.{instance_in, stacks_in}
 use Rattle.rules.proofs.Ranks.{once_broken, once_kept}

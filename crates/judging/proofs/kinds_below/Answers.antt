@@ -1,9 +1,7 @@
 -- `judging::kinds_below`: everything is asked, or the kinds of the rules before k.
-use borrow.Author.Rules.{rules}
 use mathlib.Core.Path.{◌≡◌, ap, ◌∙◌}
-use Prim.Native.Nat.{◌-◌, ◌≤◌}
 use native.Mathlib.Omega.{arith}
-use Rattle.judging.specs.Judging.{with_rule, AskedBelow}
+use Rattle.judging.specs.Judging.{with_rule}
 use Rattle.judging.proofs.Asking.{asked_all, asked_none, asked_more}
 use Rattle.judging.proofs.kinds_below.Goals as goal
 

@@ -1,10 +1,6 @@
 -- `judging::kinds_below`: everything is asked, or the kinds of the rules before k.
-use borrow.Author.Rules.{rules}
-use mathlib.Core.Path.{◌≡◌, ap, ◌∙◌}
 use Prim.Native.Nat.{◌-◌, ◌≤◌}
-use native.Mathlib.Omega.{arith}
-use Rattle.judging.specs.Judging.{with_rule, AskedBelow}
-use Rattle.judging.proofs.Asking.{asked_all, asked_none, asked_more}
+use Rattle.judging.specs.Judging.{AskedBelow}
 use Rattle.judging.proofs.kinds_below.Given as goal
 
 -- `judging::kinds_below`: everything is asked, or the kinds of the rules before k.

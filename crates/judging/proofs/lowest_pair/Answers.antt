@@ -1,5 +1,4 @@
 -- `judging::lowest_pair`: the stacks of the whole plan, by their numbers.
-use borrow.Author.Rules.{rules}
 use Rattle.judging.proofs.lowest_pair.Goals as goal
 
 pub first_pair-requires : goal.first_pair-requires

@@ -1,5 +1,4 @@
 -- `judging::place_in`: zeros where nothing is found.
-use borrow.Author.Rules.{rules}
 use mathlib.Core.Path.{refl}
 use Rattle.judging.proofs.place_in.Goals as goal
 

@@ -1,5 +1,4 @@
 -- `judging::survey_plan`: below the rank of the first broken rule on single stacks every rule was asked.
-use borrow.Author.Rules.{rules}
 use Rattle.judging.proofs.Verdicts.{surveyed}
 use Rattle.judging.proofs.survey_plan.Goals as goal
 

@@ -1,5 +1,4 @@
 -- `judging::with_pair_rule`: each arm asks the kind of its rule.
-use borrow.Author.Rules.{rules}
 use mathlib.Core.Path.{refl}
 use Rattle.judging.proofs.with_pair_rule.Goals as goal
 

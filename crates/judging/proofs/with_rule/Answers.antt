@@ -1,5 +1,4 @@
 -- `judging::with_rule`: by the kind of the rule.
-use borrow.Author.Rules.{rules}
 use Rattle.judging.proofs.with_rule.Goals as goal
 
 pub returns-in-OfPairs : goal.returns-in-OfPairs

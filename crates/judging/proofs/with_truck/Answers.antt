@@ -1,5 +1,4 @@
 -- `judging::with_truck`: the row has truck and copy of the first stack.
-use borrow.Author.Rules.{rules}
 use mathlib.Core.Path.{◌≡◌, refl, ap, ◌∙◌}
 use Prim.Native.Nat.{◌+◌}
 use native.Mathlib.Omega.{arith}

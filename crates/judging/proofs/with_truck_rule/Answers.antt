@@ -1,5 +1,4 @@
 -- `judging::with_truck_rule`: each arm asks the kind of its rule.
-use borrow.Author.Rules.{rules}
 use Rattle.judging.proofs.with_truck_rule.Goals as goal
 
 pub returns-in-Unbraced : goal.returns-in-Unbraced

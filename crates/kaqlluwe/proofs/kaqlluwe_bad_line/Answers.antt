@@ -1,5 +1,4 @@
 -- What is promised of the place of a bad line is promised here.
-use borrow.Author.Rules.{rules}
 use Rattle.kaqlluwe.proofs.kaqlluwe_bad_line.Goals as goal
 
 pub returns : goal.returns

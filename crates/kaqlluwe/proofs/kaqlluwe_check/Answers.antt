@@ -1,5 +1,4 @@
 -- What the check promises is promised here.
-use borrow.Author.Rules.{rules}
 use Rattle.kaqlluwe.proofs.kaqlluwe_check.Goals as goal
 
 pub returns : goal.returns

@@ -1,5 +1,4 @@
 -- What writing the files promises is promised here.
-use borrow.Author.Rules.{rules}
 use Rattle.kaqlluwe.proofs.kaqlluwe_write.Goals as goal
 
 pub returns : goal.returns

@@ -4,7 +4,6 @@ use mathlib.Core.Path.{◌≡◌}
 use native.Mathlib.Omega.{arith}
 use lib.ListN.{length, take, drop, length-take, length-drop}
 use Rattle.lines.proofs.Judging.{counted_entries}
-use borrow.Author.Rules.{rules}
 use Rattle.lines.proofs.counted_line.Goals as goal
 
 pub returns : goal.returns

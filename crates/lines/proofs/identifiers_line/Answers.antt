@@ -8,7 +8,6 @@ use Rattle.meaning.specs.Files.{identifiers_line}
 use Rattle.lines.specs.Progress.{entries_of}
 use Rattle.lines.proofs.Largest.{refuses_identifiers}
 use Rattle.lines.proofs.Judging.{judged_entries, judged_room, zeros_behind_lem}
-use borrow.Author.Rules.{rules}
 use Rattle.lines.proofs.identifiers_line.Goals as goal
 
 pub returns : goal.returns

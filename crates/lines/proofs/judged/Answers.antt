@@ -1,5 +1,4 @@
 -- Each case of the answer by itself.
-use borrow.Author.Rules.{rules}
 use Rattle.lines.proofs.judged.Goals as goal
 
 pub returns-then-in_range : goal.returns-then-in_range

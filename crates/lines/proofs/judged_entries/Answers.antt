@@ -1,5 +1,4 @@
 -- The line judged, and its entries counted where it is passed.
-use borrow.Author.Rules.{rules}
 use Rattle.lines.proofs.judged_entries.Goals as goal
 
 pub returns-then-in_range : goal.returns-then-in_range

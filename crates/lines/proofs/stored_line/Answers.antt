@@ -1,8 +1,6 @@
 -- Each case of the answer by itself: the line's numbers are stored, or it is wrong in form, or a line before was refused.
 use native.Mathlib.Omega.{arith}
 use Rattle.lines.proofs.Storing.{next_within, line_taken, line_wrong, refused_form, refused_range}
-use borrow.Author.Rules.{rules}
-use Rattle.text.proofs.parse_line.Reads as parse-line-reads
 use Rattle.lines.proofs.stored_line.Goals as goal
 
 pub overflow_add-line : goal.overflow_add-line

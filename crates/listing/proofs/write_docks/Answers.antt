@@ -1,7 +1,7 @@
 -- `listing::write_docks`: the docks from the next supplier's on are still to be written.
 use mathlib.Core.Path.{◌≡◌, ap, ◌∙◌}
 use mathlib.Core.List.{List, []}
-use Prim.Native.Nat.{ℕ, ◌+◌, ◌-◌, ◌≤◌, ◌<◌}
+use Prim.Native.Nat.{ℕ, ◌+◌, ◌≤◌, ◌<◌}
 use native.Mathlib.Omega.{arith}
 use lib.ListN.{length, get_or}
 use Rattle.meaning.specs.Model.{Truck, truck_numbered}
@@ -14,7 +14,6 @@ use Rattle.meaning.proofs.Lists.{every_at}
 use Rattle.table.proofs.Access.{truck_in_lem}
 use Rattle.printing.proofs.Progress.{Listing, listing_start, listing_lent, listing_next, listing_end}
 use Rattle.listing.proofs.Lines.{line_room, line_wrote, numbered}
-use borrow.Author.Rules.{rules}
 use Rattle.listing.proofs.write_docks.Goals as goal
 
 abbrev line : List ℕ → List ℕ
@@ -26,59 +25,57 @@ loop-supplier-init c = listing_start _ _ _ c.requires.2
 pub docks-requires : goal.docks-requires
 docks-requires c =
     let truck : Truck =
-        let a = c.args in truck_numbered (instance_in a.limits a.t.now) a.n in
+    let a = c.args in truck_numbered (instance_in a.limits a.t.now) a.n in
     let meets : TruckMeets truck =
-        truck_in_lem c.requires.0 c.args.n c.requires.1 in
+    truck_in_lem c.requires.0 c.args.n c.requires.1 in
     let within : c.loop-supplier.supplier < length truck.docks =
-        omega (arith, meets.dock_lines, ap length c.suppliers-visited.ensures.0) in
+    omega (arith, meets.dock_lines, ap length c.suppliers-visited.ensures.0) in
     (c.requires.0, c.requires.1, omega arith, omega (arith, within, meets.dock_lines))
 
 pub write_line-at-requires : goal.write_line-at-requires
 write_line-at-requires c =
     let truck : Truck =
-        let a = c.args in truck_numbered (instance_in a.limits a.t.now) a.n in
+    let a = c.args in truck_numbered (instance_in a.limits a.t.now) a.n in
     let meets : TruckMeets truck =
-        truck_in_lem c.requires.0 c.args.n c.requires.1 in
+    truck_in_lem c.requires.0 c.args.n c.requires.1 in
     let within : c.loop-supplier.supplier < length truck.docks =
-        omega (arith, meets.dock_lines, ap length c.suppliers-visited.ensures.0) in
+    omega (arith, meets.dock_lines, ap length c.suppliers-visited.ensures.0) in
     let some : 1 ≤ length (get_or truck.docks c.loop-supplier.supplier []) =
-        (every_at (Meets docks_line) truck.docks [] c.loop-supplier.supplier meets.docks within).least in
+    (every_at (Meets docks_line) truck.docks [] c.loop-supplier.supplier meets.docks within).least in
     let docks_are : c.docks.result.now ≡ get_or truck.docks c.loop-supplier.supplier [] =
-        c.docks.ensures.0 ∙ numbered truck.docks [] c.loop-supplier.supplier in
+    c.docks.ensures.0 ∙ numbered truck.docks [] c.loop-supplier.supplier in
     (rw docks_are some, line_room "docks=" docks_are _ (listing_lent c.loop-supplier.invariant [] within))
 
 pub overflow_add-at : goal.overflow_add-at
 overflow_add-at c =
     let truck : Truck =
-        let a = c.args in truck_numbered (instance_in a.limits a.t.now) a.n in
+    let a = c.args in truck_numbered (instance_in a.limits a.t.now) a.n in
     let After : Type 0 =
-        (out : List ℕ) × (at : ℕ) × Listing line truck.docks c.args.out.now out at (c.loop-supplier.supplier + 1) in
+    (out : List ℕ) × (at : ℕ) × Listing line truck.docks c.args.out.now out at (c.loop-supplier.supplier + 1) in
     let meets : TruckMeets truck =
-        truck_in_lem c.requires.0 c.args.n c.requires.1 in
+    truck_in_lem c.requires.0 c.args.n c.requires.1 in
     let within : c.loop-supplier.supplier < length truck.docks =
-        omega (arith, meets.dock_lines, ap length c.suppliers-visited.ensures.0) in
+    omega (arith, meets.dock_lines, ap length c.suppliers-visited.ensures.0) in
     let docks_are : c.docks.result.now ≡ get_or truck.docks c.loop-supplier.supplier [] =
-        c.docks.ensures.0 ∙ numbered truck.docks [] c.loop-supplier.supplier in
+    c.docks.ensures.0 ∙ numbered truck.docks [] c.loop-supplier.supplier in
     let after-docks : After =
-        
-        (_, _, listing_next c.loop-supplier.invariant [] within (line_wrote "docks=" docks_are c.write_line-at.ensures)) in
+    (_, _, listing_next c.loop-supplier.invariant [] within (line_wrote "docks=" docks_are c.write_line-at.ensures)) in
     omega (arith, after-docks.2.onward.room)
 
 pub loop-supplier-preserved : goal.loop-supplier-preserved
 loop-supplier-preserved c =
     let truck : Truck =
-        let a = c.args in truck_numbered (instance_in a.limits a.t.now) a.n in
+    let a = c.args in truck_numbered (instance_in a.limits a.t.now) a.n in
     let After : Type 0 =
-        (out : List ℕ) × (at : ℕ) × Listing line truck.docks c.args.out.now out at (c.loop-supplier.supplier + 1) in
+    (out : List ℕ) × (at : ℕ) × Listing line truck.docks c.args.out.now out at (c.loop-supplier.supplier + 1) in
     let meets : TruckMeets truck =
-        truck_in_lem c.requires.0 c.args.n c.requires.1 in
+    truck_in_lem c.requires.0 c.args.n c.requires.1 in
     let within : c.loop-supplier.supplier < length truck.docks =
-        omega (arith, meets.dock_lines, ap length c.suppliers-visited.ensures.0) in
+    omega (arith, meets.dock_lines, ap length c.suppliers-visited.ensures.0) in
     let docks_are : c.docks.result.now ≡ get_or truck.docks c.loop-supplier.supplier [] =
-        c.docks.ensures.0 ∙ numbered truck.docks [] c.loop-supplier.supplier in
+    c.docks.ensures.0 ∙ numbered truck.docks [] c.loop-supplier.supplier in
     let after-docks : After =
-        
-        (_, _, listing_next c.loop-supplier.invariant [] within (line_wrote "docks=" docks_are c.write_line-at.ensures)) in
+    (_, _, listing_next c.loop-supplier.invariant [] within (line_wrote "docks=" docks_are c.write_line-at.ensures)) in
     after-docks.2
 
 pub returns : goal.returns

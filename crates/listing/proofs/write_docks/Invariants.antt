@@ -1,20 +1,12 @@
 -- `listing::write_docks`: the docks from the next supplier's on are still to be written.
-use mathlib.Core.Path.{◌≡◌, ap, ◌∙◌}
-use mathlib.Core.List.{List, []}
-use Prim.Native.Nat.{ℕ, ◌+◌, ◌-◌, ◌≤◌, ◌<◌}
-use native.Mathlib.Omega.{arith}
-use lib.ListN.{length, get_or}
-use Rattle.meaning.specs.Model.{Truck, truck_numbered}
-use Rattle.meaning.specs.Files.{docks_line}
-use Rattle.meaning.specs.Meets.{Meets, TruckMeets}
+use mathlib.Core.List.{List}
+use Prim.Native.Nat.{ℕ, ◌-◌}
+use lib.ListN.{length}
+use Rattle.meaning.specs.Model.{truck_numbered}
 use Rattle.meaning.specs.Reorder.{ended}
 use Rattle.meaning.specs.Print.{printed_line}
 use Rattle.meaning.specs.Table.{instance_in}
-use Rattle.meaning.proofs.Lists.{every_at}
-use Rattle.table.proofs.Access.{truck_in_lem}
-use Rattle.printing.proofs.Progress.{Listing, listing_start, listing_lent, listing_next, listing_end}
-use Rattle.listing.proofs.Lines.{line_room, line_wrote, numbered}
-use borrow.Author.Rules.{rules}
+use Rattle.printing.proofs.Progress.{Listing}
 use Rattle.listing.proofs.write_docks.Given as goal
 
 abbrev line : List ℕ → List ℕ

@@ -7,117 +7,116 @@ use Rattle.meaning.specs.Table.{instance_in}
 use Rattle.printing.proofs.Progress.{Reached, first_most, onward_first, onward_lent, onward_lent_last, onward_run, onward_last, onward_end}
 use Rattle.listing.specs.Parts.{lines_of, head_bytes}
 use Rattle.listing.proofs.Files.{instance_parts}
-use borrow.Author.Rules.{rules}
 use Rattle.listing.proofs.write_instance.Goals as goal
 
 pub write_head-at-requires : goal.write_head-at-requires
 write_head-at-requires c =
     let instance : Instance =
-        instance_in c.args.limits c.args.t.now in
+    instance_in c.args.limits c.args.t.now in
     (c.requires.0, omega (arith, c.requires.1, first_most (head_bytes instance) _ (instance_parts instance)))
 
 pub slice_bounds-write_items-count : goal.slice_bounds-write_items-count
 slice_bounds-write_items-count c =
     let instance : Instance =
-        instance_in c.args.limits c.args.t.now in
+    instance_in c.args.limits c.args.t.now in
     let File : Type 0 =
-        Reached (printed_instance instance) c.args.out.now in
+    Reached (printed_instance instance) c.args.out.now in
     let after-head : File =
-        (_, _, _, onward_first _ c.requires.1 c.write_head-at.ensures (instance_parts instance)) in
+    (_, _, _, onward_first _ c.requires.1 c.write_head-at.ensures (instance_parts instance)) in
     omega (arith, after-head.3.room, after-head.3.long)
 
 pub slice_bounds-write_items-start : goal.slice_bounds-write_items-start
 slice_bounds-write_items-start c =
     let instance : Instance =
-        instance_in c.args.limits c.args.t.now in
+    instance_in c.args.limits c.args.t.now in
     let File : Type 0 =
-        Reached (printed_instance instance) c.args.out.now in
+    Reached (printed_instance instance) c.args.out.now in
     let after-head : File =
-        (_, _, _, onward_first _ c.requires.1 c.write_head-at.ensures (instance_parts instance)) in
+    (_, _, _, onward_first _ c.requires.1 c.write_head-at.ensures (instance_parts instance)) in
     omega (arith, after-head.3.room, after-head.3.long)
 
 pub write_items-at-requires : goal.write_items-at-requires
 write_items-at-requires c =
     let instance : Instance =
-        instance_in c.args.limits c.args.t.now in
+    instance_in c.args.limits c.args.t.now in
     let File : Type 0 =
-        Reached (printed_instance instance) c.args.out.now in
+    Reached (printed_instance instance) c.args.out.now in
     let after-head : File =
-        (_, _, _, onward_first _ c.requires.1 c.write_head-at.ensures (instance_parts instance)) in
+    (_, _, _, onward_first _ c.requires.1 c.write_head-at.ensures (instance_parts instance)) in
     (c.requires.0, onward_lent after-head.3 (lines_of "item=" instance.items) _ refl)
 
 pub overflow_add-at : goal.overflow_add-at
 overflow_add-at c =
     let instance : Instance =
-        instance_in c.args.limits c.args.t.now in
+    instance_in c.args.limits c.args.t.now in
     let File : Type 0 =
-        Reached (printed_instance instance) c.args.out.now in
+    Reached (printed_instance instance) c.args.out.now in
     let after-head : File =
-        (_, _, _, onward_first _ c.requires.1 c.write_head-at.ensures (instance_parts instance)) in
+    (_, _, _, onward_first _ c.requires.1 c.write_head-at.ensures (instance_parts instance)) in
     let after_items : File =
-        (_, _, _, onward_run after-head.3 c.write_items-at.ensures refl) in
+    (_, _, _, onward_run after-head.3 c.write_items-at.ensures refl) in
     omega (arith, after_items.3.room)
 
 pub slice_bounds-write_trucks-count : goal.slice_bounds-write_trucks-count
 slice_bounds-write_trucks-count c =
     let instance : Instance =
-        instance_in c.args.limits c.args.t.now in
+    instance_in c.args.limits c.args.t.now in
     let File : Type 0 =
-        Reached (printed_instance instance) c.args.out.now in
+    Reached (printed_instance instance) c.args.out.now in
     let after-head : File =
-        (_, _, _, onward_first _ c.requires.1 c.write_head-at.ensures (instance_parts instance)) in
+    (_, _, _, onward_first _ c.requires.1 c.write_head-at.ensures (instance_parts instance)) in
     let after_items : File =
-        (_, _, _, onward_run after-head.3 c.write_items-at.ensures refl) in
+    (_, _, _, onward_run after-head.3 c.write_items-at.ensures refl) in
     omega (arith, after_items.3.room, after_items.3.long)
 
 pub slice_bounds-write_trucks-start : goal.slice_bounds-write_trucks-start
 slice_bounds-write_trucks-start c =
     let instance : Instance =
-        instance_in c.args.limits c.args.t.now in
+    instance_in c.args.limits c.args.t.now in
     let File : Type 0 =
-        Reached (printed_instance instance) c.args.out.now in
+    Reached (printed_instance instance) c.args.out.now in
     let after-head : File =
-        (_, _, _, onward_first _ c.requires.1 c.write_head-at.ensures (instance_parts instance)) in
+    (_, _, _, onward_first _ c.requires.1 c.write_head-at.ensures (instance_parts instance)) in
     let after_items : File =
-        (_, _, _, onward_run after-head.3 c.write_items-at.ensures refl) in
+    (_, _, _, onward_run after-head.3 c.write_items-at.ensures refl) in
     omega (arith, after_items.3.room, after_items.3.long)
 
 pub write_trucks-requires : goal.write_trucks-requires
 write_trucks-requires c =
     let instance : Instance =
-        instance_in c.args.limits c.args.t.now in
+    instance_in c.args.limits c.args.t.now in
     let File : Type 0 =
-        Reached (printed_instance instance) c.args.out.now in
+    Reached (printed_instance instance) c.args.out.now in
     let after-head : File =
-        (_, _, _, onward_first _ c.requires.1 c.write_head-at.ensures (instance_parts instance)) in
+    (_, _, _, onward_first _ c.requires.1 c.write_head-at.ensures (instance_parts instance)) in
     let after_items : File =
-        (_, _, _, onward_run after-head.3 c.write_items-at.ensures refl) in
+    (_, _, _, onward_run after-head.3 c.write_items-at.ensures refl) in
     (c.requires.0, onward_lent_last after_items.3)
 
 pub overflow_add-result : goal.overflow_add-result
 overflow_add-result c =
     let instance : Instance =
-        instance_in c.args.limits c.args.t.now in
+    instance_in c.args.limits c.args.t.now in
     let File : Type 0 =
-        Reached (printed_instance instance) c.args.out.now in
+    Reached (printed_instance instance) c.args.out.now in
     let after-head : File =
-        (_, _, _, onward_first _ c.requires.1 c.write_head-at.ensures (instance_parts instance)) in
+    (_, _, _, onward_first _ c.requires.1 c.write_head-at.ensures (instance_parts instance)) in
     let after_items : File =
-        (_, _, _, onward_run after-head.3 c.write_items-at.ensures refl) in
+    (_, _, _, onward_run after-head.3 c.write_items-at.ensures refl) in
     let after-trucks : File =
-        (_, _, _, onward_last after_items.3 c.write_trucks.ensures) in
+    (_, _, _, onward_last after_items.3 c.write_trucks.ensures) in
     omega (arith, after-trucks.3.room)
 
 pub returns : goal.returns
 returns c =
     let instance : Instance =
-        instance_in c.args.limits c.args.t.now in
+    instance_in c.args.limits c.args.t.now in
     let File : Type 0 =
-        Reached (printed_instance instance) c.args.out.now in
+    Reached (printed_instance instance) c.args.out.now in
     let after-head : File =
-        (_, _, _, onward_first _ c.requires.1 c.write_head-at.ensures (instance_parts instance)) in
+    (_, _, _, onward_first _ c.requires.1 c.write_head-at.ensures (instance_parts instance)) in
     let after_items : File =
-        (_, _, _, onward_run after-head.3 c.write_items-at.ensures refl) in
+    (_, _, _, onward_run after-head.3 c.write_items-at.ensures refl) in
     let after-trucks : File =
-        (_, _, _, onward_last after_items.3 c.write_trucks.ensures) in
+    (_, _, _, onward_last after_items.3 c.write_trucks.ensures) in
     onward_end after-trucks.3 refl

@@ -1,16 +1,10 @@
 -- `listing::write_items`: the items from the next one on are still to be written.
-use mathlib.Core.Path.{◌≡◌, ◌∙◌}
-use mathlib.Core.List.{List, []}
-use Prim.Native.Nat.{ℕ, ◌+◌, ◌-◌, ◌<◌}
-use native.Mathlib.Omega.{arith}
-use lib.ListN.{length, get_or}
-use Rattle.meaning.specs.Model.{Item}
+use mathlib.Core.List.{List}
+use Prim.Native.Nat.{ℕ, ◌-◌}
 use Rattle.meaning.specs.Reorder.{ended}
 use Rattle.meaning.specs.Print.{printed_line}
 use Rattle.meaning.specs.Table.{instance_in}
-use Rattle.printing.proofs.Progress.{Listing, listing_start, listing_lent, listing_next, listing_end}
-use Rattle.listing.proofs.Lines.{line_room, line_wrote, numbered}
-use borrow.Author.Rules.{rules}
+use Rattle.printing.proofs.Progress.{Listing}
 use Rattle.listing.proofs.write_items.Given as goal
 
 abbrev line : List ℕ → List ℕ

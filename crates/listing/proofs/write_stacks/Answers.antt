@@ -1,6 +1,6 @@
 -- `listing::write_stacks`: the stacks from the next one on are still to be written.
 use mathlib.Core.List.{List}
-use Prim.Native.Nat.{ℕ, ◌+◌, ◌-◌, ◌<◌}
+use Prim.Native.Nat.{ℕ, ◌+◌, ◌<◌}
 use native.Mathlib.Omega.{arith}
 use lib.ListN.{length}
 use Rattle.meaning.specs.Model.{Stack}
@@ -8,7 +8,6 @@ use Rattle.meaning.specs.Table.{stacks_in}
 use Rattle.table.specs.Filled.{no_stack}
 use Rattle.printing.proofs.Progress.{Listing, listing_start, listing_lent, listing_next, listing_end}
 use Rattle.listing.specs.Parts.{stack_bytes}
-use borrow.Author.Rules.{rules}
 use Rattle.listing.proofs.write_stacks.Goals as goal
 
 pub loop-s-init : goal.loop-s-init
@@ -17,35 +16,33 @@ loop-s-init c = listing_start _ _ _ c.requires.1
 pub write_stack-at-requires : goal.write_stack-at-requires
 write_stack-at-requires c =
     let stacks : List Stack =
-        let a = c.args in stacks_in a.limits a.t.now in
+    let a = c.args in stacks_in a.limits a.t.now in
     let within : c.loop-s.s < length stacks =
-        omega arith in
+    omega arith in
     (c.requires.0, within, listing_lent c.loop-s.invariant no_stack within)
 
 pub overflow_add-at : goal.overflow_add-at
 overflow_add-at c =
     let stacks : List Stack =
-        let a = c.args in stacks_in a.limits a.t.now in
+    let a = c.args in stacks_in a.limits a.t.now in
     let After : Type 0 =
-        (out : List ℕ) × (at : ℕ) × Listing stack_bytes stacks c.args.out.now out at (c.loop-s.s + 1) in
+    (out : List ℕ) × (at : ℕ) × Listing stack_bytes stacks c.args.out.now out at (c.loop-s.s + 1) in
     let within : c.loop-s.s < length stacks =
-        omega arith in
+    omega arith in
     let after-stack : After =
-        
-        (_, _, listing_next c.loop-s.invariant no_stack within c.write_stack-at.ensures) in
+    (_, _, listing_next c.loop-s.invariant no_stack within c.write_stack-at.ensures) in
     omega (arith, after-stack.2.onward.room)
 
 pub loop-s-preserved : goal.loop-s-preserved
 loop-s-preserved c =
     let stacks : List Stack =
-        let a = c.args in stacks_in a.limits a.t.now in
+    let a = c.args in stacks_in a.limits a.t.now in
     let After : Type 0 =
-        (out : List ℕ) × (at : ℕ) × Listing stack_bytes stacks c.args.out.now out at (c.loop-s.s + 1) in
+    (out : List ℕ) × (at : ℕ) × Listing stack_bytes stacks c.args.out.now out at (c.loop-s.s + 1) in
     let within : c.loop-s.s < length stacks =
-        omega arith in
+    omega arith in
     let after-stack : After =
-        
-        (_, _, listing_next c.loop-s.invariant no_stack within c.write_stack-at.ensures) in
+    (_, _, listing_next c.loop-s.invariant no_stack within c.write_stack-at.ensures) in
     after-stack.2
 
 pub returns : goal.returns

@@ -1,14 +1,8 @@
 -- `listing::write_stacks`: the stacks from the next one on are still to be written.
-use mathlib.Core.List.{List}
-use Prim.Native.Nat.{ℕ, ◌+◌, ◌-◌, ◌<◌}
-use native.Mathlib.Omega.{arith}
-use lib.ListN.{length}
-use Rattle.meaning.specs.Model.{Stack}
+use Prim.Native.Nat.{◌-◌}
 use Rattle.meaning.specs.Table.{stacks_in}
-use Rattle.table.specs.Filled.{no_stack}
-use Rattle.printing.proofs.Progress.{Listing, listing_start, listing_lent, listing_next, listing_end}
+use Rattle.printing.proofs.Progress.{Listing}
 use Rattle.listing.specs.Parts.{stack_bytes}
-use borrow.Author.Rules.{rules}
 use Rattle.listing.proofs.write_stacks.Given as goal
 
 -- `listing::write_stacks`: the stacks from the next one on are still to be written.

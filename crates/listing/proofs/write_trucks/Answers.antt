@@ -9,7 +9,6 @@ use Rattle.meaning.specs.Print.{printed_truck}
 use Rattle.meaning.specs.Table.{instance_in}
 use Rattle.printing.proofs.Progress.{Listing, listing_start, listing_lent, listing_next, listing_end}
 use Rattle.listing.proofs.Lines.{numbered}
-use borrow.Author.Rules.{rules}
 use Rattle.listing.proofs.write_trucks.Goals as goal
 
 pub loop-n-init : goal.loop-n-init
@@ -18,41 +17,39 @@ loop-n-init c = listing_start _ _ _ c.requires.1
 pub write_truck-at-requires : goal.write_truck-at-requires
 write_truck-at-requires c =
     let trucks : List Truck =
-        let a = c.args in (instance_in a.limits a.t.now).trucks in
+    let a = c.args in (instance_in a.limits a.t.now).trucks in
     let within : c.loop-n.n < length trucks =
-        omega arith in
+    omega arith in
     let this-truck : get_or trucks (c.loop-n.n + 1 - 1) no_truck ≡ get_or trucks c.loop-n.n no_truck =
-        numbered trucks no_truck c.loop-n.n in
+    numbered trucks no_truck c.loop-n.n in
     (c.requires.0, omega (arith, within), rw this-truck (listing_lent c.loop-n.invariant no_truck within))
 
 pub overflow_add-at : goal.overflow_add-at
 overflow_add-at c =
     let trucks : List Truck =
-        let a = c.args in (instance_in a.limits a.t.now).trucks in
+    let a = c.args in (instance_in a.limits a.t.now).trucks in
     let After : Type 0 =
-        (out : List ℕ) × (at : ℕ) × Listing printed_truck trucks c.args.out.now out at (c.loop-n.n + 1) in
+    (out : List ℕ) × (at : ℕ) × Listing printed_truck trucks c.args.out.now out at (c.loop-n.n + 1) in
     let within : c.loop-n.n < length trucks =
-        omega arith in
+    omega arith in
     let this-truck : get_or trucks (c.loop-n.n + 1 - 1) no_truck ≡ get_or trucks c.loop-n.n no_truck =
-        numbered trucks no_truck c.loop-n.n in
+    numbered trucks no_truck c.loop-n.n in
     let after-truck : After =
-        
-        (_, _, listing_next c.loop-n.invariant no_truck within (rw this-truck at c.write_truck-at.ensures)) in
+    (_, _, listing_next c.loop-n.invariant no_truck within (rw this-truck at c.write_truck-at.ensures)) in
     omega (arith, after-truck.2.onward.room)
 
 pub loop-n-preserved : goal.loop-n-preserved
 loop-n-preserved c =
     let trucks : List Truck =
-        let a = c.args in (instance_in a.limits a.t.now).trucks in
+    let a = c.args in (instance_in a.limits a.t.now).trucks in
     let After : Type 0 =
-        (out : List ℕ) × (at : ℕ) × Listing printed_truck trucks c.args.out.now out at (c.loop-n.n + 1) in
+    (out : List ℕ) × (at : ℕ) × Listing printed_truck trucks c.args.out.now out at (c.loop-n.n + 1) in
     let within : c.loop-n.n < length trucks =
-        omega arith in
+    omega arith in
     let this-truck : get_or trucks (c.loop-n.n + 1 - 1) no_truck ≡ get_or trucks c.loop-n.n no_truck =
-        numbered trucks no_truck c.loop-n.n in
+    numbered trucks no_truck c.loop-n.n in
     let after-truck : After =
-        
-        (_, _, listing_next c.loop-n.invariant no_truck within (rw this-truck at c.write_truck-at.ensures)) in
+    (_, _, listing_next c.loop-n.invariant no_truck within (rw this-truck at c.write_truck-at.ensures)) in
     after-truck.2
 
 pub returns : goal.returns

@@ -1,15 +1,8 @@
 -- `listing::write_trucks`: the trucks from the next one on are still to be written.
-use mathlib.Core.Path.{◌≡◌}
-use mathlib.Core.List.{List}
-use Prim.Native.Nat.{ℕ, ◌+◌, ◌-◌, ◌<◌}
-use native.Mathlib.Omega.{arith}
-use lib.ListN.{length, get_or}
-use Rattle.meaning.specs.Model.{Truck, no_truck}
+use Prim.Native.Nat.{◌-◌}
 use Rattle.meaning.specs.Print.{printed_truck}
 use Rattle.meaning.specs.Table.{instance_in}
-use Rattle.printing.proofs.Progress.{Listing, listing_start, listing_lent, listing_next, listing_end}
-use Rattle.listing.proofs.Lines.{numbered}
-use borrow.Author.Rules.{rules}
+use Rattle.printing.proofs.Progress.{Listing}
 use Rattle.listing.proofs.write_trucks.Given as goal
 
 -- `listing::write_trucks`: the trucks from the next one on are still to be written.

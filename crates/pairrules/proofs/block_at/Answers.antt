@@ -1,5 +1,4 @@
 -- `pairrules::block_at`: a block is that of each stack in it.
-use borrow.Author.Rules.{rules}
 use Rattle.pairrules.proofs.Partners.{block_kept}
 use Rattle.pairrules.proofs.block_at.Goals as goal
 

@@ -1,14 +1,8 @@
 -- `pairrules::first_pair`: the stacks and their partners are taken by ascending number, so the first broken pair is the lowest; what is not asked has been.
-use mathlib.Core.Path.{◌≡◌, refl, ◌∙◌}
+use mathlib.Core.Path.{refl, ◌∙◌}
 use mathlib.Core.Logic.{inl, inr}
-use Prim.Native.Nat.{◌-◌}
 use native.Mathlib.Omega.{arith}
-use borrow.Author.Rules.{rules}
-use lib.ListN.{length}
-use Rattle.meaning.specs.Table.{stacks_in}
-use Rattle.search.specs.declared.Found.TheVariants.{Nothing}
-use Rattle.pairrules.specs.PairRules.{KnownBlock}
-use Rattle.pairrules.proofs.Search.{StacksPassed, PartnersPassed, numbered_within, within, stacks_start, stacks_more, partners_start, partners_more}
+use Rattle.pairrules.proofs.Search.{numbered_within, within, stacks_start, stacks_more, partners_start, partners_more}
 use Rattle.pairrules.proofs.Search.{pair_found, pair_none}
 use Rattle.pairrules.proofs.first_pair.Goals as goal
 
@@ -24,13 +18,12 @@ pub first_partner-b-requires : goal.first_partner-b-requires
 first_partner-b-requires c = c.block_at-on.ensures.behind.some
 
 pub loop-b-init : goal.loop-b-init
-loop-b-init c =
-    (
-      c.search.invariant.0,
-      partners_start c.search.invariant.0 c.stack_count-count.ensures.0 c.search-test.true c.as_index-a.ensures.0
-          c.block_at-on.ensures c.first_partner-b.ensures,
-      c.search.invariant.2,
-    )
+loop-b-init c = (
+  c.search.invariant.0,
+  partners_start c.search.invariant.0 c.stack_count-count.ensures.0 c.search-test.true c.as_index-a.ensures.0
+      c.block_at-on.ensures c.first_partner-b.ensures,
+  c.search.invariant.2,
+)
 
 pub pair_kept-requires : goal.pair_kept-requires
 pair_kept-requires c =

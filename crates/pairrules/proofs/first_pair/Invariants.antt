@@ -1,15 +1,11 @@
 -- `pairrules::first_pair`: the stacks and their partners are taken by ascending number, so the first broken pair is the lowest; what is not asked has been.
-use mathlib.Core.Path.{◌≡◌, refl, ◌∙◌}
-use mathlib.Core.Logic.{inl, inr}
+use mathlib.Core.Path.{◌≡◌}
 use Prim.Native.Nat.{◌-◌}
-use native.Mathlib.Omega.{arith}
-use borrow.Author.Rules.{rules}
 use lib.ListN.{length}
 use Rattle.meaning.specs.Table.{stacks_in}
 use Rattle.search.specs.declared.Found.TheVariants.{Nothing}
 use Rattle.pairrules.specs.PairRules.{KnownBlock}
-use Rattle.pairrules.proofs.Search.{StacksPassed, PartnersPassed, numbered_within, within, stacks_start, stacks_more, partners_start, partners_more}
-use Rattle.pairrules.proofs.Search.{pair_found, pair_none}
+use Rattle.pairrules.proofs.Search.{StacksPassed, PartnersPassed}
 use Rattle.pairrules.proofs.first_pair.Given as goal
 
 -- `pairrules::first_pair`: the stacks and their partners are taken by ascending number, so the first broken pair is the lowest; what is not asked has been.

@@ -1,6 +1,5 @@
 -- `pairrules::first_partner`: each rule is a case of the definition.
 use mathlib.Core.Path.{refl}
-use borrow.Author.Rules.{rules}
 use Rattle.pairrules.proofs.first_partner.Goals as goal
 
 pub returns-in-SecondPair : goal.returns-in-SecondPair

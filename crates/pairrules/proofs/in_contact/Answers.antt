@@ -2,7 +2,6 @@
 use mathlib.Core.Path.{refl, ap₂}
 use Prim.Native.Nat.{◌+◌}
 use native.Mathlib.Omega.{arith}
-use borrow.Author.Rules.{rules}
 use borrow.Author.Tests.{eq-eqb, ne_eqb}
 use lib.Dec.{leb}
 use Rattle.pairrules.proofs.in_contact.Goals as goal

@@ -1,5 +1,4 @@
 -- `pairrules::in_loading_order`: a stack with no greater x keeps the rule; behind the other it keeps it unless its rank comes before.
-use borrow.Author.Rules.{rules}
 use Rattle.pairrules.proofs.Ranks.{front_in_order, behind_in_order}
 use Rattle.pairrules.proofs.in_loading_order.Goals as goal
 

@@ -1,15 +1,11 @@
 -- `pairrules::is_single_behind`: a stack without two plant docks keeps the rule with any other; else each behind it is asked.
-use mathlib.Core.Path.{◌≡◌, refl, sym, ◌∙◌}
+use mathlib.Core.Path.{◌≡◌}
 use mathlib.Core.Bool.{true}
 use Prim.Native.Nat.{◌+◌, ◌-◌}
-use native.Mathlib.Omega.{arith}
-use borrow.Author.Rules.{rules}
 use Rattle.meaning.specs.Rules.{single_pair}
 use Rattle.meaning.specs.Table.{instance_in, stacks_in}
 use Rattle.manifest.specs.Manifest.{manifest_at}
-use Rattle.pairrules.proofs.Places.{Upto, upto_start, upto_kept, upto_broken, upto_all, same_told}
-use Rattle.pairrules.proofs.Pairs.{first_not_two}
-use Rattle.pairrules.proofs.Reading.{docks_are}
+use Rattle.pairrules.proofs.Places.{Upto}
 use Rattle.pairrules.proofs.is_single_behind.Given as goal
 
 -- `pairrules::is_single_behind`: a stack without two plant docks keeps the rule with any other; else each behind it is asked.

@@ -1,7 +1,6 @@
 -- `pairrules::is_single_pair`: a stack without two plant docks keeps the rule with any other; for two stacks with two the codes decide.
 use mathlib.Core.Path.{◌∙◌}
 use native.Mathlib.Omega.{arith}
-use borrow.Author.Rules.{rules}
 use Rattle.manifest.proofs.Reading.{index_within}
 use Rattle.pairrules.proofs.Pairs.{first_not_two, second_not_two, both_two}
 use Rattle.pairrules.proofs.Reading.{docks_are, code_is}

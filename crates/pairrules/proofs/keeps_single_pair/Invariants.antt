@@ -2,15 +2,11 @@
 use mathlib.Core.Path.{◌≡◌}
 use mathlib.Core.Bool.{true}
 use Prim.Native.Nat.{◌+◌, ◌-◌}
-use native.Mathlib.Omega.{arith}
-use borrow.Author.Rules.{rules}
 use Rattle.meaning.specs.Rules.{single_pair}
 use Rattle.meaning.specs.Table.{instance_in, stacks_in}
-use Rattle.meaning.proofs.Tests.{iff_trans}
 use Rattle.manifest.specs.Manifest.{manifest_at}
 use Rattle.pairrules.specs.PairRules.{Each}
-use Rattle.pairrules.proofs.Places.{Upto, upto_start, upto_kept, upto_broken, upto_all}
-use Rattle.pairrules.proofs.Pairs.{single_block}
+use Rattle.pairrules.proofs.Places.{Upto}
 use Rattle.pairrules.proofs.keeps_single_pair.Given as goal
 
 -- `pairrules::keeps_single_pair`: the stacks passed keep the rule with those behind them, and in the end that is every pair.

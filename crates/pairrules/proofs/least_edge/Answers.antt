@@ -1,7 +1,6 @@
 -- `pairrules::least_edge`: 100 or the lower of both widths.
 use mathlib.Core.Path.{ap, ◌∙◌}
 use Prim.Native.Nat.{min}
-use borrow.Author.Rules.{rules}
 use Rattle.pairrules.proofs.least_edge.Goals as goal
 
 pub returns : goal.returns

@@ -1,9 +1,8 @@
 -- `pairrules::order_by`: the words of the rows before the k-th are written as keys, and the places are sorted by them.
-use mathlib.Core.Path.{◌≡◌, refl}
+use mathlib.Core.Path.{◌≡◌}
 use Prim.Native.Nat.{◌-◌}
-use borrow.Author.Rules.{rules}
-use lib.ListN.{length, length-set}
-use Rattle.pairrules.proofs.Sorted.{Written, written_none, written_more, sorted_by}
+use lib.ListN.{length}
+use Rattle.pairrules.proofs.Sorted.{Written}
 use Rattle.pairrules.proofs.order_by.Given as goal
 
 -- `pairrules::order_by`: the words of the rows before the k-th are written as keys, and the places are sorted by them.

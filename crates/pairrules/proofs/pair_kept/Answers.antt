@@ -1,6 +1,5 @@
 -- `pairrules::pair_kept`: each rule is a case of the definition, and its test is the model's.
 use mathlib.Core.Path.{◌∙◌}
-use borrow.Author.Rules.{rules}
 use Rattle.pairrules.proofs.Reading.{disjoint_is, order_is}
 use Rattle.pairrules.proofs.pair_kept.Goals as goal
 

@@ -2,12 +2,8 @@
 use mathlib.Core.Path.{◌≡◌}
 use mathlib.Core.Bool.{true}
 use Prim.Native.Nat.{◌-◌}
-use native.Mathlib.Omega.{arith}
-use borrow.Author.Rules.{rules}
-use Rattle.meaning.proofs.Tests.{iff_trans}
 use Rattle.pairrules.specs.PairRules.{in_order_at, Each, place_at}
-use Rattle.pairrules.proofs.Places.{Upto, upto_start, upto_kept, upto_broken, upto_all}
-use Rattle.placement.proofs.Walk.{ordered_two}
+use Rattle.pairrules.proofs.Places.{Upto}
 use Rattle.placement.proofs.are_in_order.Given as goal
 
 -- `placement::are_in_order`: each stack is asked with those before it, and with those behind it keeps the order anyway.

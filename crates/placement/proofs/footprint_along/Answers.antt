@@ -1,6 +1,5 @@
 -- `placement::footprint_along`: the row at the k-th place is there.
 use mathlib.Core.Path.{ap, ◌∙◌}
-use borrow.Author.Rules.{rules}
 use Rattle.manifest.specs.Manifest.{footprint_at}
 use Rattle.placement.proofs.Trailer.{nth_room}
 use Rattle.placement.proofs.footprint_along.Goals as goal

@@ -1,8 +1,7 @@
 -- `placement::is_braced`: a stack at the front wall is braced; else those before it along the trailer are asked, since no other can brace it.
 use native.Mathlib.Omega.{arith}
-use borrow.Author.Rules.{rules}
 use Rattle.pairrules.specs.PairRules.{place_at}
-use Rattle.placement.proofs.Trailer.{NoBrace, at_front, no_brace_start, both_wide, brace_found, no_brace_more, not_braced}
+use Rattle.placement.proofs.Trailer.{at_front, no_brace_start, both_wide, brace_found, no_brace_more, not_braced}
 use Rattle.placement.proofs.is_braced.Goals as goal
 
 pub returns-then-ground-eq0 : goal.returns-then-ground-eq0

@@ -1,7 +1,5 @@
 -- `placement::is_clear`: those it has passed lie apart, and from one that begins where it ends x rises along the trailer.
-use Prim.Native.Nat.{◌-◌}
-use borrow.Author.Rules.{rules}
-use Rattle.placement.proofs.Trailer.{ClearUpto, clear_start, clear_all, clear_behind, clear_broken, clear_more}
+use Rattle.placement.proofs.Trailer.{clear_start, clear_all, clear_behind, clear_broken, clear_more}
 use Rattle.placement.proofs.is_clear.Goals as goal
 
 pub loop-j-init : goal.loop-j-init

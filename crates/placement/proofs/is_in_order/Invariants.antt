@@ -1,8 +1,6 @@
 -- `placement::is_in_order`: every stack before it along the trailer is asked.
 use Prim.Native.Nat.{◌-◌}
-use native.Mathlib.Omega.{arith}
-use borrow.Author.Rules.{rules}
-use Rattle.placement.proofs.Trailer.{InOrderUpto, in_order_start, in_order_all, both_room, in_order_broken, in_order_more}
+use Rattle.placement.proofs.Trailer.{InOrderUpto}
 use Rattle.placement.proofs.is_in_order.Given as goal
 
 -- `placement::is_in_order`: every stack before it along the trailer is asked.

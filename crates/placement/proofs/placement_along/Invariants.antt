@@ -1,8 +1,5 @@
 -- `placement::placement_along`: the stacks are taken from the last along the trailer to the first; then the order is asked, where no two overlap.
-use native.Mathlib.Omega.{arith}
-use borrow.Author.Rules.{rules}
-use Rattle.placement.proofs.Trailer.{nth_room}
-use Rattle.placement.proofs.Walk.{PlacedFrom, next_inside, placed_start, clear_asked, overlap_known, placed_apart, placed_overlap}
+use Rattle.placement.proofs.Walk.{PlacedFrom}
 use Rattle.placement.proofs.placement_along.Given as goal
 
 -- `placement::placement_along`: the stacks are taken from the last along the trailer to the first; then the order is asked, where no two overlap.

@@ -1,11 +1,8 @@
 -- Word by word: up to the index the words are the new ones, behind it the old ones.
-use Prim.Native.Nat.{◌≤◌, ◌-◌}
-use mathlib.Core.Path.{◌≡◌, ◌∙◌}
-use mathlib.Core.List.{◌++◌}
+use mathlib.Core.Path.{◌∙◌}
 use native.Mathlib.Omega.{arith}
-use lib.ListN.{length, take, drop, length-set}
+use lib.ListN.{length-set}
 use Rattle.plan.proofs.Splices.{copy_next, copy_done}
-use borrow.Author.Rules.{rules}
 use Rattle.plan.proofs.copy_words.Goals as goal
 
 pub loop-i-preserved : goal.loop-i-preserved

@@ -1,11 +1,8 @@
 -- Word by word: up to the index the words are the new ones, behind it the old ones.
 use Prim.Native.Nat.{◌≤◌, ◌-◌}
-use mathlib.Core.Path.{◌≡◌, ◌∙◌}
+use mathlib.Core.Path.{◌≡◌}
 use mathlib.Core.List.{◌++◌}
-use native.Mathlib.Omega.{arith}
-use lib.ListN.{length, take, drop, length-set}
-use Rattle.plan.proofs.Splices.{copy_next, copy_done}
-use borrow.Author.Rules.{rules}
+use lib.ListN.{length, take, drop}
 use Rattle.plan.proofs.copy_words.Given as goal
 
 -- Word by word: up to the index the words are the new ones, behind it the old ones.

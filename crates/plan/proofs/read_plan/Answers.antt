@@ -1,6 +1,5 @@
 -- `plan::read_plan` meets its contract: the announced number of stacks, the stacks, and the end of the file.
 use mathlib.Core.Path.{refl}
-use borrow.Author.Rules.{rules}
 use Rattle.plan.proofs.PlanLines.{plan_read}
 use Rattle.plan.proofs.read_plan.Goals as goal
 

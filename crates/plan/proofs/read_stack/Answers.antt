@@ -5,7 +5,6 @@ use Prim.Native.Nat.{ℕ, ◌-◌, ◌*◌}
 use native.Mathlib.Omega.{arith}
 use borrow.Rule.Slice.PartMut.{mid_of, put_mid, same_len_mid}
 use lib.ListN.{length, length-set}
-use borrow.Author.Rules.{rules}
 use Rattle.plan.proofs.StackLines.{stack_read}
 use Rattle.plan.proofs.read_stack.Goals as goal
 
@@ -17,7 +16,7 @@ bounds-part-row-2 c =
     let part-kept : length part ≡ length c.args.part.now = c.read_stack_row-fields.auto.part in
     let loads-kept : length loads ≡ length (mid_of from (length part - from) part) = c.read_load-load.auto.loads in
     let same-part : length (put_mid from (length part - from) part loads) ≡ length c.args.part.now =
-        same_len_mid from (length part - from) part loads loads-kept ∙ part-kept in
+    same_len_mid from (length part - from) part loads loads-kept ∙ part-kept in
     simp length-set (omega (arith, same-part))
 
 pub returns : goal.returns
@@ -28,7 +27,7 @@ returns c =
     let part-kept : length part ≡ length c.args.part.now = c.read_stack_row-fields.auto.part in
     let loads-kept : length loads ≡ length (mid_of from (length part - from) part) = c.read_load-load.auto.loads in
     let same-part : length (put_mid from (length part - from) part loads) ≡ length c.args.part.now =
-        same_len_mid from (length part - from) part loads loads-kept ∙ part-kept in
+    same_len_mid from (length part - from) part loads loads-kept ∙ part-kept in
     stack_read c.args.limits c.args.counts c.args.file.now c.args.part.now part loads c.args.q c.read_stack_row-fields.result c.read_load-load.result
     (omega arith) (omega arith) c.requires.5 part-kept loads-kept c.read_stack_row-fields.ensures
     c.read_load-load.ensures.read c.read_load-load.ensures.within

@@ -1,6 +1,5 @@
 -- The row of a stack: its line is stored there, tested there and judged.
 use mathlib.Core.Path.{◌≡◌, refl, ◌∙◌}
-use mathlib.Core.Logic.{⊎_elim}
 use mathlib.Core.Bool.{not, ◌&&◌}
 use Prim.Native.Nat.{◌*◌, ◌+◌, ◌-◌}
 use native.Mathlib.Omega.{arith}
@@ -14,14 +13,13 @@ use Rattle.plan.proofs.Splices.{put_spliced}
 use Rattle.lines.proofs.Follow.{read_within}
 use Rattle.lines.proofs.Judging.{full_read}
 use Rattle.plan.proofs.Judging.{stack_refuses_largest, both_made, one_made, row_fits}
-use borrow.Author.Rules.{rules}
 use Rattle.plan.proofs.read_stack_row.Goals as goal
 use Rattle.plan.proofs.read_stack_row.Goals.{then-in_range, else-in_range}
 
 pub returns : goal.returns
 returns c =
     let tested : c.if-in_range.judged ≡ (c.stack_in_range-in_range.result && not c.is_repeated-repeated.result) =
-        elim c.if-in_range.branch [ then-in_range w ↦ both_made _ w.if-in_range.true w.judged-is | else-in_range w ↦ one_made _ w.if-in_range.false w.judged-is ] in
+    elim c.if-in_range.branch [ then-in_range w ↦ both_made _ w.if-in_range.true w.judged-is | else-in_range w ↦ one_made _ w.if-in_range.false w.judged-is ] in
     let at = 8 * c.args.k in
     let size = at + 6 - at in
     let f = stack_line c.args.trucks (row_numbers c.args.k c.args.part.now) in

@@ -1,10 +1,6 @@
 -- `plan::read_stacks` meets its contract. The loop's state says what is read so far, and that what is left makes up the whole answer.
-use mathlib.Core.Path.{ap, ◌∙◌}
-use Prim.Native.Nat.{ℕ, ◌-◌}
-use native.Mathlib.Omega.{arith}
-use borrow.Author.Rules.{rules}
-use lib.ListN.{replicate}
-use Rattle.plan.proofs.StackLines.{SoFar, so_far_first, so_far_next, so_far_done}
+use Prim.Native.Nat.{◌-◌}
+use Rattle.plan.proofs.StackLines.{SoFar}
 use Rattle.plan.proofs.read_stacks.Given as goal
 
 -- `plan::read_stacks` meets its contract. The loop's state says what is read so far, and that what is left makes up the whole answer.

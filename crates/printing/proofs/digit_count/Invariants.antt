@@ -1,8 +1,6 @@
 -- `printing::digit_count`: powers of ten up to the first above the number.
-use Prim.Native.Nat.{◌+◌, ◌-◌, ◌*◌}
-use native.Mathlib.Omega.{arith}
-use Rattle.printing.proofs.Digits.{Counting, counting_start, counting_next, counting_end}
-use borrow.Author.Rules.{rules}
+use Prim.Native.Nat.{◌-◌}
+use Rattle.printing.proofs.Digits.{Counting}
 use Rattle.printing.proofs.digit_count.Given as goal
 
 -- `printing::digit_count`: powers of ten up to the first above the number.

@@ -2,8 +2,7 @@
 use mathlib.Core.Path.{sym, ◌∙◌}
 use native.Mathlib.Omega.{arith}
 use lib.ListN.{length-set}
-use Rattle.printing.proofs.Digits.{Placing, some_digits, placing_start, placing_before, placing_next, placing_end}
-use borrow.Author.Rules.{rules}
+use Rattle.printing.proofs.Digits.{some_digits, placing_start, placing_before, placing_next, placing_end}
 use Rattle.printing.proofs.put_digits.Goals as goal
 
 pub overflow_sub-at : goal.overflow_sub-at

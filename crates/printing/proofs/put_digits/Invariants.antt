@@ -1,9 +1,5 @@
 -- `printing::put_digits`: the digits of the rest in front of those that stand are the digits of the number.
-use mathlib.Core.Path.{sym, ◌∙◌}
-use native.Mathlib.Omega.{arith}
-use lib.ListN.{length-set}
-use Rattle.printing.proofs.Digits.{Placing, some_digits, placing_start, placing_before, placing_next, placing_end}
-use borrow.Author.Rules.{rules}
+use Rattle.printing.proofs.Digits.{Placing}
 use Rattle.printing.proofs.put_digits.Given as goal
 
 -- `printing::put_digits`: the digits of the rest in front of those that stand are the digits of the number.

@@ -1,12 +1,11 @@
 -- `printing::write_key`: what is left of the key is still to be written.
 use mathlib.Core.Path.{◌≡◌}
 use mathlib.Core.List.{◌∷◌}
-use Prim.Native.Nat.{◌+◌, ◌-◌, ◌≤◌}
+use Prim.Native.Nat.{◌+◌, ◌≤◌}
 use native.Mathlib.Omega.{arith}
 use lib.ListN.{length, get_or, drop, drop_of_length-le}
 use Rattle.meaning.proofs.Lists.{drop_next}
-use Rattle.printing.proofs.Progress.{Onward, onward_start, onward_byte, onward_fits, onward_end}
-use borrow.Author.Rules.{rules}
+use Rattle.printing.proofs.Progress.{onward_start, onward_byte, onward_fits, onward_end}
 use Rattle.printing.proofs.write_key.Goals as goal
 
 pub loop-i-init : goal.loop-i-init
@@ -16,14 +15,14 @@ pub bounds-out-i : goal.bounds-out-i
 bounds-out-i c =
     let next : let key = c.args.key.now in let i = c.loop-i.i in
     drop i key ≡ get_or key i 0 ∷ drop (i + 1) key =
-        drop_next c.args.key.now c.loop-i.i 0 (omega arith) in
+    drop_next c.args.key.now c.loop-i.i 0 (omega arith) in
     onward_fits c.loop-i.invariant.1 next
 
 pub loop-i-preserved : goal.loop-i-preserved
 loop-i-preserved c =
     let next : let key = c.args.key.now in let i = c.loop-i.i in
     drop i key ≡ get_or key i 0 ∷ drop (i + 1) key =
-        drop_next c.args.key.now c.loop-i.i 0 (omega arith) in
+    drop_next c.args.key.now c.loop-i.i 0 (omega arith) in
     (omega arith, onward_byte c.loop-i.invariant.1 next)
 
 pub shape_of-out : goal.shape_of-out

@@ -1,12 +1,7 @@
 -- `printing::write_key`: what is left of the key is still to be written.
-use mathlib.Core.Path.{◌≡◌}
-use mathlib.Core.List.{◌∷◌}
-use Prim.Native.Nat.{◌+◌, ◌-◌, ◌≤◌}
-use native.Mathlib.Omega.{arith}
-use lib.ListN.{length, get_or, drop, drop_of_length-le}
-use Rattle.meaning.proofs.Lists.{drop_next}
-use Rattle.printing.proofs.Progress.{Onward, onward_start, onward_byte, onward_fits, onward_end}
-use borrow.Author.Rules.{rules}
+use Prim.Native.Nat.{◌-◌, ◌≤◌}
+use lib.ListN.{length, drop}
+use Rattle.printing.proofs.Progress.{Onward}
 use Rattle.printing.proofs.write_key.Given as goal
 
 -- `printing::write_key`: what is left of the key is still to be written.

@@ -1,6 +1,5 @@
 -- `printing::write_number`: the digits fill the bytes that are lent for them.
 use Rattle.printing.proofs.Progress.{wrote_front}
-use borrow.Author.Rules.{rules}
 use Rattle.printing.proofs.write_number.Goals as goal
 
 pub returns : goal.returns

@@ -1,11 +1,9 @@
 -- From the last word down: the words from the index on decide what was found so far.
 use mathlib.Core.Path.{◌≡◌, sym}
-use Prim.Native.Nat.{◌≤◌}
 use native.Mathlib.Omega.{arith}
-use lib.ListN.{length, drop}
-use Rattle.meaning.specs.Lists.{all, between}
+use lib.ListN.{length}
+use Rattle.meaning.specs.Lists.{between}
 use Rattle.ranges.proofs.Scan.{all_back, all_end}
-use borrow.Author.Rules.{rules}
 use Rattle.ranges.proofs.all_between.Goals as goal
 
 pub loop-i-init : goal.loop-i-init

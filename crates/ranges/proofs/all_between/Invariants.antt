@@ -1,11 +1,8 @@
 -- From the last word down: the words from the index on decide what was found so far.
-use mathlib.Core.Path.{◌≡◌, sym}
+use mathlib.Core.Path.{◌≡◌}
 use Prim.Native.Nat.{◌≤◌}
-use native.Mathlib.Omega.{arith}
 use lib.ListN.{length, drop}
 use Rattle.meaning.specs.Lists.{all, between}
-use Rattle.ranges.proofs.Scan.{all_back, all_end}
-use borrow.Author.Rules.{rules}
 use Rattle.ranges.proofs.all_between.Given as goal
 
 -- From the last word down: the words from the index on decide what was found so far.

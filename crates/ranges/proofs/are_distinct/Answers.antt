@@ -1,11 +1,7 @@
 -- The words from the index on decide: they are distinct where all words are, since those before are listed once only.
-use Prim.Native.Nat.{◌≤◌, ◌-◌, ◌+◌}
-use mathlib.Core.Path.{◌≡◌, refl, sym, ◌∙◌}
+use mathlib.Core.Path.{refl, sym, ◌∙◌}
 use native.Mathlib.Omega.{arith}
-use lib.ListN.{length, drop}
-use Rattle.meaning.specs.Lists.{distinct}
 use Rattle.ranges.proofs.Scan.{distinct_on, distinct_off, distinct_end}
-use borrow.Author.Rules.{rules}
 use Rattle.ranges.proofs.are_distinct.Goals as goal
 
 pub loop-i-init : goal.loop-i-init

@@ -1,11 +1,8 @@
 -- The words from the index on decide: they are distinct where all words are, since those before are listed once only.
-use Prim.Native.Nat.{◌≤◌, ◌-◌, ◌+◌}
-use mathlib.Core.Path.{◌≡◌, refl, sym, ◌∙◌}
-use native.Mathlib.Omega.{arith}
+use Prim.Native.Nat.{◌≤◌, ◌-◌}
+use mathlib.Core.Path.{◌≡◌}
 use lib.ListN.{length, drop}
 use Rattle.meaning.specs.Lists.{distinct}
-use Rattle.ranges.proofs.Scan.{distinct_on, distinct_off, distinct_end}
-use borrow.Author.Rules.{rules}
 use Rattle.ranges.proofs.are_distinct.Given as goal
 
 -- The words from the index on decide: they are distinct where all words are, since those before are listed once only.

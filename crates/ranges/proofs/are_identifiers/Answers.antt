@@ -1,7 +1,6 @@
 -- Both tests, in the order of the definition.
 use mathlib.Core.Path.{ap₂}
 use mathlib.Core.Bool.{◌&&◌}
-use borrow.Author.Rules.{rules}
 use Rattle.ranges.proofs.are_identifiers.Goals as goal
 
 pub returns : goal.returns

@@ -1,10 +1,6 @@
 -- The first item of a code among those that are left is the first among all.
-use mathlib.Core.Path.{◌≡◌, refl, sym, ◌∙◌}
-use Prim.Native.Nat.{◌+◌, ◌-◌, ◌≤◌}
+use mathlib.Core.Path.{refl, sym, ◌∙◌}
 use native.Mathlib.Omega.{arith}
-use lib.ListN.{drop}
-use borrow.Author.Rules.{rules}
-use Rattle.meaning.specs.Lists.{order_from, order_in}
 use Rattle.table.proofs.Order.{order_found, order_passed, order_none}
 use Rattle.ranges.proofs.Clashes.{codes, codes_counted, code_there}
 use Rattle.ranges.proofs.first_of_code.Goals as goal

@@ -1,12 +1,9 @@
 -- The first item of a code among those that are left is the first among all.
-use mathlib.Core.Path.{◌≡◌, refl, sym, ◌∙◌}
+use mathlib.Core.Path.{◌≡◌}
 use Prim.Native.Nat.{◌+◌, ◌-◌, ◌≤◌}
-use native.Mathlib.Omega.{arith}
 use lib.ListN.{drop}
-use borrow.Author.Rules.{rules}
 use Rattle.meaning.specs.Lists.{order_from, order_in}
-use Rattle.table.proofs.Order.{order_found, order_passed, order_none}
-use Rattle.ranges.proofs.Clashes.{codes, codes_counted, code_there}
+use Rattle.ranges.proofs.Clashes.{codes}
 use Rattle.ranges.proofs.first_of_code.Given as goal
 
 -- The first item of a code among those that are left is the first among all.

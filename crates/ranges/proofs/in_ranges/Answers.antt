@@ -1,12 +1,8 @@
 -- From the last word down: the words from the index on decide what was found so far.
 use mathlib.Core.Path.{◌≡◌, sym}
-use Prim.Native.Nat.{◌≤◌}
 use native.Mathlib.Omega.{arith}
-use lib.ListN.{length, drop}
-use Rattle.meaning.specs.Files.{all_within}
-use Rattle.ranges.specs.Ranges.{ranges_between}
+use lib.ListN.{length}
 use Rattle.ranges.proofs.Scan.{within_back, within_end}
-use borrow.Author.Rules.{rules}
 use Rattle.ranges.proofs.in_ranges.Goals as goal
 
 pub loop-i-init : goal.loop-i-init

@@ -1,12 +1,9 @@
 -- From the last word down: the words from the index on decide what was found so far.
-use mathlib.Core.Path.{◌≡◌, sym}
+use mathlib.Core.Path.{◌≡◌}
 use Prim.Native.Nat.{◌≤◌}
-use native.Mathlib.Omega.{arith}
 use lib.ListN.{length, drop}
 use Rattle.meaning.specs.Files.{all_within}
 use Rattle.ranges.specs.Ranges.{ranges_between}
-use Rattle.ranges.proofs.Scan.{within_back, within_end}
-use borrow.Author.Rules.{rules}
 use Rattle.ranges.proofs.in_ranges.Given as goal
 
 -- From the last word down: the words from the index on decide what was found so far.

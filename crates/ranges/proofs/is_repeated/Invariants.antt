@@ -1,11 +1,8 @@
 -- From the first row on: what was found so far is whether the number is repeated in the rows passed.
 use mathlib.Core.Path.{◌≡◌}
 use Prim.Native.Nat.{◌-◌, ◌≤◌}
-use native.Mathlib.Omega.{arith}
 use Rattle.meaning.specs.Lists.{listed}
 use Rattle.ranges.specs.Ranges.{row_numbers}
-use borrow.Author.Rules.{rules}
-use Rattle.ranges.proofs.Scan.{repeated_before, repeated_next}
 use Rattle.ranges.proofs.is_repeated.Given as goal
 
 -- From the first row on: what was found so far is whether the number is repeated in the rows passed.

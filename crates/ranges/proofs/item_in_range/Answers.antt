@@ -1,5 +1,4 @@
 -- `item_in_range`: the ends that the code lists are those of the item's ranges, once the highest nesting height is one below the height.
-use borrow.Author.Rules.{rules}
 use Rattle.ranges.specs.Ranges.{ranges_between}
 use Rattle.ranges.proofs.item_in_range.Goals as goal
 

@@ -1,8 +1,6 @@
 -- Going down, a clash that is found is lower than all found before; where none is found, what was lowest stays so.
-use mathlib.Core.Logic.{⊎_elim}
 use native.Mathlib.Omega.{arith}
-use borrow.Author.Rules.{rules}
-use Rattle.ranges.proofs.Clashes.{LowestAbove, first_within, none_yet, all_asked, clash_here, no_clash_here}
+use Rattle.ranges.proofs.Clashes.{first_within, none_yet, all_asked, clash_here, no_clash_here}
 use Rattle.ranges.proofs.lowest_clash.Goals as goal
 use Rattle.ranges.proofs.lowest_clash.Goals.{then-not-same_length_and_width, else-not-same_length_and_width}
 
@@ -20,8 +18,8 @@ loop-n-preserved c =
     let none = no_clash_here c.loop-n.invariant c.loop-n-test.true c.item_word.ensures c.first_of_code-first.ensures in
     let same = c.same_length_and_width.ensures in
     elim c.if-not-same_length_and_width.branch [
-      then-not-same_length_and_width w ↦ rw w.clash-is (here same w.if-not-same_length_and_width.true-raw)
-    | else-not-same_length_and_width w ↦ rw w.clash-is (none same w.if-not-same_length_and_width.false-raw)
+      | then-not-same_length_and_width w ↦ rw w.clash-is (here same w.if-not-same_length_and_width.true-raw)
+      | else-not-same_length_and_width w ↦ rw w.clash-is (none same w.if-not-same_length_and_width.false-raw)
     ]
 
 pub returns : goal.returns

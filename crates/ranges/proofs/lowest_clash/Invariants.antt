@@ -1,8 +1,5 @@
 -- Going down, a clash that is found is lower than all found before; where none is found, what was lowest stays so.
-use mathlib.Core.Logic.{⊎_elim}
-use native.Mathlib.Omega.{arith}
-use borrow.Author.Rules.{rules}
-use Rattle.ranges.proofs.Clashes.{LowestAbove, first_within, none_yet, all_asked, clash_here, no_clash_here}
+use Rattle.ranges.proofs.Clashes.{LowestAbove}
 use Rattle.ranges.proofs.lowest_clash.Given as goal
 
 -- Going down, a clash that is found is lower than all found before; where none is found, what was lowest stays so.

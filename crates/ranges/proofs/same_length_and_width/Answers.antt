@@ -1,5 +1,4 @@
 -- Two items compared by length, then by width, are compared as `same_length_and_width` compares them.
-use borrow.Author.Rules.{rules}
 use Rattle.ranges.specs.Clashes.{item_at}
 use Rattle.ranges.proofs.Clashes.{same_lengths, other_lengths}
 use Rattle.ranges.proofs.same_length_and_width.Goals as goal

@@ -1,5 +1,4 @@
 -- The two lists of ends are the ranges of a truck's line.
-use borrow.Author.Rules.{rules}
 use Rattle.ranges.specs.Ranges.{ranges_between}
 use Rattle.ranges.proofs.truck_in_range.Goals as goal
 

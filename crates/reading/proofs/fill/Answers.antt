@@ -5,13 +5,12 @@ use borrow.Author.Rules.{rules}
 use Rattle.reading.proofs.fill.Goals as goal
 
 pub fill_after_instance-requires : goal.fill_after_instance-requires
-fill_after_instance-requires c =
-    (
-      instance_ready _ _ _ _ c.read_instance.ensures _ c.in-Next.is _ _
-          (rw c.requires.1 at c.clear.ensures) c.stacks_at-end.ensures c.requires.0,
-      search rules,
-      c.requires.3,
-    )
+fill_after_instance-requires c = (
+  instance_ready _ _ _ _ c.read_instance.ensures _ c.in-Next.is _ _
+      (rw c.requires.1 at c.clear.ensures) c.stacks_at-end.ensures c.requires.0,
+  search rules,
+  c.requires.3,
+)
 
 pub refused_line-requires : goal.refused_line-requires
 refused_line-requires c = omega (arith, rw c.in-WrongForm.is at c.read_instance.ensures.within)

@@ -1,7 +1,6 @@
 -- The answer and the words follow from how far the plan is read.
 use native.Mathlib.Omega.{arith}
 use Rattle.reading.proofs.Filling.{plan_form, plan_range, plan_readable}
-use borrow.Author.Rules.{rules}
 use Rattle.reading.proofs.fill_plan.Goals as goal
 
 pub refused_line-requires : goal.refused_line-requires

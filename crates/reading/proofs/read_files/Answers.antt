@@ -1,5 +1,4 @@
 -- Reading within the limits of the document.
-use borrow.Author.Rules.{rules}
 use Rattle.reading.proofs.read_files.Goals as goal
 
 pub returns : goal.returns

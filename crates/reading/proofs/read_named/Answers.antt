@@ -4,7 +4,6 @@ use native.Mathlib.Omega.{arith}
 use lib.ListN.{length}
 use Rattle.meaning.specs.Limits.{named}
 use Rattle.reading.proofs.Outer.{instance_overlong, plan_overlong, words_cleared, words_kept}
-use borrow.Author.Rules.{rules}
 use Rattle.reading.proofs.read_named.Goals as goal
 
 pub returns-then-limits-instance : goal.returns-then-limits-instance

@@ -1,6 +1,5 @@
 -- A short table stays; of a long one only the named words are lent.
 use Rattle.reading.proofs.Outer.{short_read, long_read}
-use borrow.Author.Rules.{rules}
 use Rattle.reading.proofs.read_within.Goals as goal
 
 pub returns-then-lent-named : goal.returns-then-lent-named

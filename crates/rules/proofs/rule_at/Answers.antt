@@ -1,6 +1,5 @@
 -- `rules::rule_at`: the rule of the rank's verdict.
 use mathlib.Core.Path.{◌∙◌, ap}
-use borrow.Author.Rules.{rules}
 use Rattle.rules.specs.LoadingRules.{rule_of, rule_at}
 use Rattle.rules.proofs.rule_at.Goals as goal
 

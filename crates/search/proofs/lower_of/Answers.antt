@@ -1,5 +1,4 @@
 -- `search::lower_of`: each pair of answers is a case of the definition.
-use borrow.Author.Rules.{rules}
 use Rattle.search.proofs.Lowest.{one_found, both_found}
 use Rattle.search.proofs.lower_of.Goals as goal
 

@@ -1,5 +1,4 @@
 -- `search::lower_place`: the second place is answered where it is the lower one, else the first.
-use borrow.Author.Rules.{rules}
 use Rattle.search.proofs.lower_place.Goals as goal
 
 pub returns-then-is_lower : goal.returns-then-is_lower

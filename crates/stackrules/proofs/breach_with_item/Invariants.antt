@@ -1,12 +1,10 @@
 -- `stackrules::breach_with_item`: the rules are asked one after another.
 use Prim.Native.Nat.{◌-◌}
-use borrow.Author.Rules.{rules}
 use Rattle.meaning.specs.Table.{instance_in, stacks_in}
 use Rattle.rules.specs.LoadingRules.{rule_count}
 use Rattle.manifest.specs.Manifest.{manifest_at}
 use Rattle.stackrules.specs.StackRules.{with_item}
-use Rattle.stackrules.proofs.Items.{found_on_stack}
-use Rattle.stackrules.proofs.First.{KeptTo, kept_none, kept_more, kept_broken, kept_all}
+use Rattle.stackrules.proofs.First.{KeptTo}
 use Rattle.stackrules.proofs.breach_with_item.Given as goal
 
 -- `stackrules::breach_with_item`: the rules are asked one after another.

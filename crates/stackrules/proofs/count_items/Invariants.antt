@@ -1,12 +1,9 @@
 -- `stackrules::count_items`: from the last stack to the first, each adds its items to the counts of the stacks behind it.
-use mathlib.Core.Path.{◌≡◌, refl}
-use Prim.Native.Nat.{◌+◌, ◌-◌, ◌≤◌}
-use native.Mathlib.Omega.{arith}
-use borrow.Author.Rules.{rules}
+use mathlib.Core.Path.{◌≡◌}
+use Prim.Native.Nat.{◌≤◌}
 use lib.ListN.{length, drop}
 use Rattle.meaning.specs.Table.{instance_in, stacks_in}
 use Rattle.stackrules.specs.StackRules.{Tally}
-use Rattle.stackrules.proofs.Tally.{tally_none, tally_more, countable}
 use Rattle.stackrules.proofs.count_items.Given as goal
 
 -- `stackrules::count_items`: from the last stack to the first, each adds its items to the counts of the stacks behind it.

@@ -2,8 +2,7 @@
 use mathlib.Core.Path.{refl}
 use Prim.Native.Nat.{◌-◌}
 use native.Mathlib.Omega.{arith}
-use borrow.Author.Rules.{rules}
-use Rattle.stackrules.proofs.Tally.{Counting, counting_none, entry_inside, count_inside, count_few, counting_more, counting_all}
+use Rattle.stackrules.proofs.Tally.{counting_none, entry_inside, count_inside, count_few, counting_more}
 use Rattle.stackrules.proofs.count_load.Goals as goal
 
 pub bounds-items-j : goal.bounds-items-j

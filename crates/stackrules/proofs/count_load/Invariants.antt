@@ -1,9 +1,5 @@
 -- `stackrules::count_load`: from the top entry down each adds one to the count of its item.
-use mathlib.Core.Path.{refl}
-use Prim.Native.Nat.{◌-◌}
-use native.Mathlib.Omega.{arith}
-use borrow.Author.Rules.{rules}
-use Rattle.stackrules.proofs.Tally.{Counting, counting_none, entry_inside, count_inside, count_few, counting_more, counting_all}
+use Rattle.stackrules.proofs.Tally.{Counting}
 use Rattle.stackrules.proofs.count_load.Given as goal
 
 -- `stackrules::count_load`: from the top entry down each adds one to the count of its item.

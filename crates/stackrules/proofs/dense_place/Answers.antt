@@ -16,13 +16,12 @@ bottom_field-requires-2 c = search (rules, stack_there)
 
 -- `stackrules::dense_place`: the test compares the products of rule 21.
 pub density_kept-kept-requires : goal.density_kept-kept-requires
-density_kept-kept-requires c =
-    (
-      omega (arith, c.row_word-weight.ensures, word_most c.requires.0 c.args.k c.requires.1 8 (omega arith)),
-      c.truck_field-limit.ensures.1,
-      c.bottom_field.ensures.1,
-      c.bottom_field-2.ensures.1,
-    )
+density_kept-kept-requires c = (
+  omega (arith, c.row_word-weight.ensures, word_most c.requires.0 c.args.k c.requires.1 8 (omega arith)),
+  c.truck_field-limit.ensures.1,
+  c.bottom_field.ensures.1,
+  c.bottom_field-2.ensures.1,
+)
 
 pub returns : goal.returns
 returns c =

@@ -1,7 +1,6 @@
 -- `stackrules::density_kept`: the bounds of its arguments keep both products within 64 bits.
 use native.Mathlib.Nat.{mul-le-mul}
 use native.Mathlib.Omega.{arith}
-use borrow.Author.Rules.{rules}
 use Rattle.stackrules.proofs.density_kept.Goals as goal
 
 pub overflow_mul-result-2 : goal.overflow_mul-result-2

@@ -1,5 +1,4 @@
 -- `stackrules::docks_served`: both loading orders are those on the stack's truck.
-use borrow.Author.Rules.{rules}
 use Rattle.meaning.specs.Table.{instance_in, stacks_in}
 use Rattle.table.specs.Filled.{stack_at}
 use Rattle.stackrules.proofs.Items.{docks_listed}

@@ -1,14 +1,10 @@
 -- `stackrules::first_on_stacks`: the breach so far is that of the stacks so far, in the end of all.
 use mathlib.Core.List.{[], ◌∷◌}
-use Prim.Native.Nat.{◌-◌}
-use borrow.Author.Rules.{rules}
 use Rattle.meaning.specs.Model.{Stack}
 use Rattle.meaning.specs.Table.{instance_in, stacks_in}
-use Rattle.table.specs.Filled.{no_stack}
 use Rattle.rules.specs.LoadingRules.{rule_places}
 use Rattle.manifest.specs.Manifest.{in_manifest}
-use Rattle.manifest.proofs.Order.{manifest_length, manifest_at_lem}
-use Rattle.stackrules.proofs.First.{FirstFrom, from_none, from_more, from_end, first_same, lowest_listed, manifest_known}
+use Rattle.stackrules.proofs.First.{FirstFrom}
 use Rattle.stackrules.proofs.first_on_stacks.Given as goal
 
 -- `stackrules::first_on_stacks`: the breach so far is that of the stacks so far, in the end of all.

@@ -1,5 +1,4 @@
 -- `stackrules::is_stackable`: the five tests are those of the rule.
-use borrow.Author.Rules.{rules}
 use Rattle.stackrules.proofs.is_stackable.Goals as goal
 
 pub returns : goal.returns

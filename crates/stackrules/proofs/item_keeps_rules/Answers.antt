@@ -1,5 +1,4 @@
 -- `stackrules::item_keeps_rules`: the seven tests are those of the rules on items.
-use borrow.Author.Rules.{rules}
 use Rattle.meaning.specs.Model.{item}
 use Rattle.meaning.specs.Table.{instance_in, stacks_in}
 use Rattle.table.specs.Filled.{stack_at}

@@ -1,7 +1,6 @@
 -- `stackrules::lowest_not_once`: of the items above `n` the lowest place is kept; the words of the counts say how often each item is loaded.
-use borrow.Author.Rules.{rules}
 use Rattle.meaning.specs.Table.{instance_in, stacks_in}
-use Rattle.stackrules.proofs.Tally.{FoundAbove, above_none, above_more, above_end}
+use Rattle.stackrules.proofs.Tally.{above_none, above_more, above_end}
 use Rattle.stackrules.proofs.lowest_not_once.Goals as goal
 
 pub loop-n-preserved : goal.loop-n-preserved

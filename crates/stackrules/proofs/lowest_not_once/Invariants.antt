@@ -1,7 +1,5 @@
 -- `stackrules::lowest_not_once`: of the items above `n` the lowest place is kept; the words of the counts say how often each item is loaded.
-use borrow.Author.Rules.{rules}
-use Rattle.meaning.specs.Table.{instance_in, stacks_in}
-use Rattle.stackrules.proofs.Tally.{FoundAbove, above_none, above_more, above_end}
+use Rattle.stackrules.proofs.Tally.{FoundAbove}
 use Rattle.stackrules.proofs.lowest_not_once.Given as goal
 
 -- `stackrules::lowest_not_once`: of the items above `n` the lowest place is kept; the words of the counts say how often each item is loaded.

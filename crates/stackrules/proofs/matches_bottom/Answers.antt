@@ -1,5 +1,4 @@
 -- `stackrules::matches_bottom`: both fields are the model's.
-use borrow.Author.Rules.{rules}
 use Rattle.stackrules.proofs.matches_bottom.Goals as goal
 
 pub returns : goal.returns

@@ -1,7 +1,6 @@
 -- `stackrules::own_rules_kept`: five searches, and each finds nothing exactly where its rule is kept.
 use mathlib.Core.Path.{◌≡◌}
 use mathlib.Core.List.{[]}
-use borrow.Author.Rules.{rules}
 use Rattle.meaning.specs.Table.{instance_in, stacks_in}
 use Rattle.meaning.proofs.Tests.{iff_trans}
 use Rattle.rules.specs.declared.OwnRule.{OwnRule}

@@ -1,7 +1,6 @@
 -- `stackrules::product_carried`: the list is that of the stack's truck.
 use mathlib.Core.Path.{ap, ap₂, ◌∙◌}
 use Prim.Native.Nat.{ℕ}
-use borrow.Author.Rules.{rules}
 use Rattle.meaning.specs.Lists.{listed}
 use Rattle.meaning.specs.Model.{truck_numbered}
 use Rattle.meaning.specs.Table.{instance_in}

@@ -1,6 +1,5 @@
 -- `stackrules::rank_place`: each arm has the places of its kind of rule.
 use mathlib.Core.Path.{sym}
-use borrow.Author.Rules.{rules}
 use Rattle.search.proofs.Lowest.{lowest_none}
 use Rattle.stackrules.specs.StackRules.{with_item}
 use Rattle.stackrules.proofs.rank_place.Goals as goal

@@ -1,5 +1,4 @@
 -- `stackrules::sooner`: each way out is a case of the definition.
-use borrow.Author.Rules.{rules}
 use borrow.Author.Tests.{lt-ltb, le-ltb}
 use Rattle.stackrules.proofs.sooner.Goals as goal
 

@@ -1,14 +1,8 @@
 -- `stackrules::stack_breach`: the breach so far is that of the items from the top down, in the end of the whole stack.
-use mathlib.Core.Path.{refl}
-use native.Mathlib.Omega.{arith}
-use borrow.Author.Rules.{rules}
 use Rattle.meaning.specs.Table.{instance_in, stacks_in}
 use Rattle.manifest.specs.Manifest.{manifest_at}
 use Rattle.stackrules.specs.StackRules.{with_item}
-use Rattle.stackrules.proofs.Items.{load_places}
-use Rattle.stackrules.proofs.Stacks.{stack_there, stack_same}
-use Rattle.stackrules.proofs.Kept.{all_kept_lem}
-use Rattle.stackrules.proofs.First.{FirstFrom, from_none, from_more, from_kept, from_end, first_same, entry_known}
+use Rattle.stackrules.proofs.First.{FirstFrom}
 use Rattle.stackrules.proofs.stack_breach.Given as goal
 
 -- `stackrules::stack_breach`: the breach so far is that of the items from the top down, in the end of the whole stack.

@@ -1,6 +1,5 @@
 -- `stackrules::supplier_visited`: an identifier has a loading order exactly when it is listed.
 use mathlib.Core.Path.{ap}
-use borrow.Author.Rules.{rules}
 use Rattle.meaning.specs.Model.{item, truck_numbered, truck_of, IU}
 use Rattle.meaning.specs.Table.{instance_in, stacks_in}
 use Rattle.table.specs.Filled.{stack_at}

@@ -1,13 +1,11 @@
 -- Supplier after supplier: those whose docks are a list behind its count do not decide any more.
 use mathlib.Core.Path.{◌≡◌, ap, ap₂, ◌∙◌}
 use mathlib.Core.Bool.{◌&&◌}
-use Prim.Native.Nat.{◌+◌, ◌-◌, ◌*◌, ◌≤◌}
+use Prim.Native.Nat.{◌+◌, ◌-◌, ◌*◌}
 use native.Mathlib.Omega.{arith}
-use lib.ListN.{get_or, take, drop}
-use Rattle.meaning.specs.Lists.{up_from}
-use Rattle.stored.specs.Parts.{entries_stored, docks_stored, zeros}
-use Rattle.stored.proofs.Scan.{Passed, passed_none, fell, stood, place_passed, place_failed, places_passed, rest_lent}
-use borrow.Author.Rules.{rules}
+use lib.ListN.{drop}
+use Rattle.stored.specs.Parts.{docks_stored, zeros}
+use Rattle.stored.proofs.Scan.{passed_none, fell, stood, place_passed, place_failed, places_passed, rest_lent}
 use Rattle.stored.proofs.docks_stored.Goals as goal
 
 pub loop-k-init : goal.loop-k-init

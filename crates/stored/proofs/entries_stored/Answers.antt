@@ -1,7 +1,6 @@
 -- Entries of a line, or words that are none.
 use native.Mathlib.Omega.{arith}
 use Rattle.stored.proofs.Entries.{entries_unfit, entries_fit}
-use borrow.Author.Rules.{rules}
 use Rattle.stored.proofs.entries_stored.Goals as goal
 
 pub returns-then-n-eq0 : goal.returns-then-n-eq0

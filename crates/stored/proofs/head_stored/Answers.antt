@@ -1,13 +1,9 @@
 -- Number after number: those in range do not decide any more.
 use mathlib.Core.Path.{◌≡◌, ap, ◌∙◌}
-use Prim.Native.Nat.{◌-◌, ◌≤◌}
 use native.Mathlib.Omega.{arith}
-use lib.ListN.{get_or, drop}
-use Rattle.meaning.specs.Lists.{between, up_from}
-use Rattle.ranges.specs.Ranges.{head_range}
+use lib.ListN.{drop}
 use Rattle.stored.specs.Parts.{head_stored, zeros}
-use Rattle.stored.proofs.Scan.{Passed, passed_none, fell, stood, place_passed, place_failed, places_passed, rest_lent}
-use borrow.Author.Rules.{rules}
+use Rattle.stored.proofs.Scan.{passed_none, fell, stood, place_passed, place_failed, places_passed, rest_lent}
 use Rattle.stored.proofs.head_stored.Goals as goal
 
 pub loop-place-init : goal.loop-place-init

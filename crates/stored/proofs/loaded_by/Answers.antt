@@ -3,8 +3,7 @@ use mathlib.Core.Path.{◌≡◌, refl}
 use Prim.Native.Nat.{◌+◌, ◌-◌, ◌*◌}
 use native.Mathlib.Omega.{arith}
 use Rattle.stored.proofs.Scan.{fell, stood}
-use Rattle.stored.proofs.Rows.{Left, left_all, left_none, row_counts, row_repeated, row_unfit}
-use borrow.Author.Rules.{rules}
+use Rattle.stored.proofs.Rows.{left_all, left_none, row_counts, row_repeated, row_unfit}
 use Rattle.stored.proofs.loaded_by.Goals as goal
 
 pub loop-k-init : goal.loop-k-init

@@ -1,10 +1,6 @@
 -- Row after row: the rows from the next one on, behind those that passed, decide how many entries all loads hold.
-use mathlib.Core.Path.{◌≡◌, refl}
-use Prim.Native.Nat.{◌+◌, ◌-◌, ◌*◌}
-use native.Mathlib.Omega.{arith}
-use Rattle.stored.proofs.Scan.{fell, stood}
-use Rattle.stored.proofs.Rows.{Left, left_all, left_none, row_counts, row_repeated, row_unfit}
-use borrow.Author.Rules.{rules}
+use Prim.Native.Nat.{◌-◌}
+use Rattle.stored.proofs.Rows.{Left}
 use Rattle.stored.proofs.loaded_by.Given as goal
 
 -- Row after row: the rows from the next one on, behind those that passed, decide how many entries all loads hold.

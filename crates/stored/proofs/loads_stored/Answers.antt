@@ -1,14 +1,12 @@
 -- As many entries as the stacks' loads hold stand within the words of the loads.
 use mathlib.Core.Path.{refl, ap, ap₂, ◌∙◌}
 use mathlib.Core.Bool.{◌&&◌}
-use Prim.Native.Nat.{◌-◌}
 use native.Mathlib.Nat.{sub-zero}
 use native.Mathlib.Omega.{arith}
 use lib.ListN.{take}
 use Rattle.meaning.specs.Lists.{all, between}
 use Rattle.stored.specs.Parts.{zeros, loads_stored}
 use Rattle.stored.proofs.Scan.{rest_lent}
-use borrow.Author.Rules.{rules}
 use Rattle.stored.proofs.loads_stored.Goals as goal
 
 pub slice_bounds-all_between-end : goal.slice_bounds-all_between-end

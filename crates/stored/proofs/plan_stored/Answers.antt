@@ -1,14 +1,12 @@
 -- The rows of the stacks, then their loads; the words behind the rows are zero.
-use mathlib.Core.Path.{◌≡◌, ap, ap₂, ◌∙◌}
+use mathlib.Core.Path.{ap, ap₂, ◌∙◌}
 use mathlib.Core.Bool.{◌&&◌}
 use mathlib.Core.List.{[]}
 use Prim.Native.Nat.{◌*◌}
-use native.Mathlib.Omega.{arith}
 use lib.ListN.{get_or, drop}
 use Rattle.meaning.specs.Lists.{chunks}
-use Rattle.stored.specs.Parts.{LoadedWithin, zeros, entries_of, loads_stored, plan_stored}
+use Rattle.stored.specs.Parts.{zeros, entries_of, loads_stored, plan_stored}
 use Rattle.stored.proofs.Scan.{rest_lent}
-use borrow.Author.Rules.{rules}
 use Rattle.stored.proofs.plan_stored.Goals as goal
 
 pub loads_stored-requires : goal.loads_stored-requires

@@ -4,7 +4,6 @@ use mathlib.Core.Bool.{◌&&◌}
 use Prim.Native.Nat.{◌+◌}
 use lib.Dec.{leb, eqb}
 use Rattle.meaning.specs.Lists.{between}
-use borrow.Author.Rules.{rules}
 use Rattle.stored.proofs.stack_stored.Goals as goal
 
 pub returns : goal.returns

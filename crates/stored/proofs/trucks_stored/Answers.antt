@@ -1,11 +1,8 @@
 -- Row after row: those that passed do not decide any more.
 use mathlib.Core.Path.{◌≡◌}
-use Prim.Native.Nat.{◌+◌, ◌-◌, ◌*◌, ◌≤◌}
+use Prim.Native.Nat.{◌+◌, ◌-◌, ◌*◌}
 use native.Mathlib.Omega.{arith}
-use Rattle.meaning.specs.Lists.{chunks}
-use Rattle.stored.specs.Parts.{truck_stored}
-use Rattle.stored.proofs.Scan.{Passed, passed_none, fell, stood, row_failed, row_passed, rows_passed}
-use borrow.Author.Rules.{rules}
+use Rattle.stored.proofs.Scan.{passed_none, fell, stood, row_failed, row_passed, rows_passed}
 use Rattle.stored.proofs.trucks_stored.Goals as goal
 
 pub loop-k-init : goal.loop-k-init

@@ -1,11 +1,10 @@
 -- `table::clear` makes every word zero: those before `i` are zero, the others as they were.
 use mathlib.Core.Path.{◌≡◌}
-use mathlib.Core.List.{◌++◌, append-nil}
-use Prim.Native.Nat.{◌-◌, ◌≤◌, ◌<◌}
+use mathlib.Core.List.{append-nil}
+use Prim.Native.Nat.{◌<◌}
 use native.Mathlib.Omega.{arith}
 use borrow.Author.Fill.{fill_more}
-use borrow.Author.Rules.{rules}
-use lib.ListN.{length, drop, replicate, length-set}
+use lib.ListN.{length, replicate, length-set}
 use lib.Seq.{drop-length}
 use Rattle.table.proofs.clear.Goals as goal
 

@@ -1,12 +1,8 @@
 -- `table::clear` makes every word zero: those before `i` are zero, the others as they were.
 use mathlib.Core.Path.{◌≡◌}
-use mathlib.Core.List.{◌++◌, append-nil}
-use Prim.Native.Nat.{◌-◌, ◌≤◌, ◌<◌}
-use native.Mathlib.Omega.{arith}
-use borrow.Author.Fill.{fill_more}
-use borrow.Author.Rules.{rules}
-use lib.ListN.{length, drop, replicate, length-set}
-use lib.Seq.{drop-length}
+use mathlib.Core.List.{◌++◌}
+use Prim.Native.Nat.{◌-◌, ◌≤◌}
+use lib.ListN.{length, drop, replicate}
 use Rattle.table.proofs.clear.Given as goal
 
 -- `table::clear` makes every word zero: those before `i` are zero, the others as they were.

@@ -1,5 +1,4 @@
 -- `table::counted`: the part is as long as the count says.
-use borrow.Author.Rules.{rules}
 use Rattle.table.proofs.counted.Goals as goal
 
 pub returns : goal.returns

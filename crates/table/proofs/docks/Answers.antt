@@ -1,7 +1,6 @@
 -- `table::docks`: the docks of the supplier at this place of the truck's suppliers.
 use native.Mathlib.Omega.{arith}
 use Rattle.table.proofs.Access.{docks_room, docks_read}
-use borrow.Author.Rules.{rules}
 use Rattle.table.proofs.docks.Goals as goal
 
 pub docks_at-requires : goal.docks_at-requires

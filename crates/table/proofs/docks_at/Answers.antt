@@ -1,5 +1,4 @@
 -- `table::docks_at`: the supplier's row of docks, as far as its count says.
-use borrow.Author.Rules.{rules}
 use Rattle.table.proofs.docks_at.Goals as goal
 
 pub returns : goal.returns

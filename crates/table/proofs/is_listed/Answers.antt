@@ -1,11 +1,7 @@
 -- From the last word down: the words from the index on decide what was found so far.
 use mathlib.Core.Path.{◌≡◌}
-use Prim.Native.Nat.{◌≤◌}
 use native.Mathlib.Omega.{arith}
-use lib.ListN.{length, drop}
-use Rattle.meaning.specs.Lists.{listed}
 use Rattle.table.proofs.Order.{listed_back, listed_end}
-use borrow.Author.Rules.{rules}
 use Rattle.table.proofs.is_listed.Goals as goal
 
 pub loop-i-init : goal.loop-i-init

@@ -1,6 +1,5 @@
 -- `table::item_count`: the word is the count that the decoding goes by.
 use native.Mathlib.Omega.{arith}
-use borrow.Author.Rules.{rules}
 use Rattle.table.proofs.Words.{items_counted}
 use Rattle.table.proofs.item_count.Goals as goal
 

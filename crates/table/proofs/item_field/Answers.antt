@@ -1,6 +1,5 @@
 -- `table::item_field`: the word is the field of the item, within its range.
 use Rattle.table.proofs.Access.{item_read}
-use borrow.Author.Rules.{rules}
 use Rattle.table.proofs.item_field.Goals as goal
 
 pub returns : goal.returns

@@ -1,6 +1,5 @@
 -- `table::item_fields`: the words of the item are its fields.
 use Rattle.table.proofs.Access.{item_whole}
-use borrow.Author.Rules.{rules}
 use Rattle.table.proofs.item_fields.Goals as goal
 
 pub returns : goal.returns

@@ -1,5 +1,4 @@
 -- `table::item_words`: the items before it have 16 words each.
-use borrow.Author.Rules.{rules}
 use Rattle.table.proofs.item_words.Goals as goal
 
 pub returns : goal.returns

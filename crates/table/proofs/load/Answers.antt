@@ -1,7 +1,6 @@
 -- `table::load`: the words of the loads that the stack's two last words point at.
 use native.Mathlib.Omega.{arith}
 use Rattle.table.proofs.Access.{load_room, load_read}
-use borrow.Author.Rules.{rules}
 use Rattle.table.proofs.load.Goals as goal
 
 pub words_from-requires : goal.words_from-requires

@@ -1,5 +1,4 @@
 -- `table::load_words`: the loads stand behind the stacks.
-use borrow.Author.Rules.{rules}
 use Rattle.table.proofs.load_words.Goals as goal
 
 pub returns : goal.returns

@@ -1,10 +1,6 @@
 -- `table::order_in`: the place among the numbers that are left, from `i` on, is the place among all.
-use mathlib.Core.Path.{◌≡◌, refl, sym, ◌∙◌}
-use Prim.Native.Nat.{◌+◌, ◌-◌, ◌≤◌}
+use mathlib.Core.Path.{refl, sym, ◌∙◌}
 use native.Mathlib.Omega.{arith}
-use borrow.Author.Rules.{rules}
-use lib.ListN.{length, drop}
-use Rattle.meaning.specs.Lists.{order_from, order_in}
 use Rattle.table.proofs.Order.{order_found, order_passed, order_none}
 use Rattle.table.proofs.order_in.Goals as goal
 

@@ -1,6 +1,5 @@
 -- `table::plant_docks`: a list that stands behind its count among the words of the truck.
 use Rattle.table.proofs.Access.{plant_docks_behind, list_room, list_read}
-use borrow.Author.Rules.{rules}
 use Rattle.table.proofs.plant_docks.Goals as goal
 
 pub counted-requires : goal.counted-requires

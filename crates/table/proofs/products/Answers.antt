@@ -1,6 +1,5 @@
 -- `table::products`: a list that stands behind its count among the words of the truck.
 use Rattle.table.proofs.Access.{products_behind, list_room, list_read}
-use borrow.Author.Rules.{rules}
 use Rattle.table.proofs.products.Goals as goal
 
 pub counted-requires : goal.counted-requires

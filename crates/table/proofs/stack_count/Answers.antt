@@ -1,6 +1,5 @@
 -- `table::stack_count`: the word is the count that the decoding goes by.
 use native.Mathlib.Omega.{arith}
-use borrow.Author.Rules.{rules}
 use Rattle.table.proofs.Words.{stacks_counted}
 use Rattle.table.proofs.stack_count.Goals as goal
 

@@ -1,6 +1,5 @@
 -- `table::stack_field`: the word is the field of the stack, within its range.
 use Rattle.table.proofs.Access.{stack_read}
-use borrow.Author.Rules.{rules}
 use Rattle.table.proofs.stack_field.Goals as goal
 
 pub returns : goal.returns

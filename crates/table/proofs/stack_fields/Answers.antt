@@ -1,6 +1,5 @@
 -- `table::stack_fields`: the first words of the stack are its fields.
 use Rattle.table.proofs.Access.{stack_whole}
-use borrow.Author.Rules.{rules}
 use Rattle.table.proofs.stack_fields.Goals as goal
 
 pub returns : goal.returns

@@ -1,5 +1,4 @@
 -- `table::stack_truck`: the stack's range says that its truck is one.
-use borrow.Author.Rules.{rules}
 use Rattle.table.proofs.Access.{truck_of_lem}
 use Rattle.table.proofs.stack_truck.Goals as goal
 

@@ -1,5 +1,4 @@
 -- `table::stack_words`: the stacks before it have 8 words each.
-use borrow.Author.Rules.{rules}
 use Rattle.table.proofs.stack_words.Goals as goal
 
 pub returns : goal.returns

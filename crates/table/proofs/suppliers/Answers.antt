@@ -1,6 +1,5 @@
 -- `table::suppliers`: a list that stands behind its count among the words of the truck.
 use Rattle.table.proofs.Access.{suppliers_behind, list_room, list_read}
-use borrow.Author.Rules.{rules}
 use Rattle.table.proofs.suppliers.Goals as goal
 
 pub counted-requires : goal.counted-requires

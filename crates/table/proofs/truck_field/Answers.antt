@@ -1,6 +1,5 @@
 -- `table::truck_field`: the word is the field of the truck, within its range.
 use Rattle.table.proofs.Access.{truck_read}
-use borrow.Author.Rules.{rules}
 use Rattle.table.proofs.truck_field.Goals as goal
 
 pub returns : goal.returns

@@ -1,6 +1,5 @@
 -- `table::truck_fields`: the first words of the truck are its fields.
 use Rattle.table.proofs.Access.{truck_whole}
-use borrow.Author.Rules.{rules}
 use Rattle.table.proofs.truck_fields.Goals as goal
 
 pub returns : goal.returns

@@ -1,5 +1,4 @@
 -- `table::truck_words`: the trucks before it have 160 words each.
-use borrow.Author.Rules.{rules}
 use Rattle.table.proofs.truck_words.Goals as goal
 
 pub returns : goal.returns

@@ -1,5 +1,4 @@
 -- `table::words_of_stacks`: they begin where the stacks do.
-use borrow.Author.Rules.{rules}
 use Rattle.table.proofs.words_of_stacks.Goals as goal
 
 pub returns : goal.returns

@@ -1,5 +1,4 @@
 -- `table::words_of_trucks`: they begin where the trucks do.
-use borrow.Author.Rules.{rules}
 use Rattle.table.proofs.words_of_trucks.Goals as goal
 
 pub returns : goal.returns

@@ -1,11 +1,8 @@
 -- What the line from `i` on has after the key from `i` on is what the whole line has after the whole key.
-use mathlib.Core.Path.{◌≡◌, refl, sym, ◌∙◌}
+use mathlib.Core.Path.{◌≡◌}
 use Prim.Native.Nat.{◌-◌, ◌≤◌}
-use native.Mathlib.Omega.{arith}
-use borrow.Author.Rules.{rules}
 use lib.ListN.{length, drop}
 use Rattle.meaning.specs.Text.{value_after}
-use Rattle.text.proofs.Bytes.{value_at, value_end, value_short}
 use Rattle.text.proofs.begins_with.Given as goal
 
 -- What the line from `i` on has after the key from `i` on is what the whole line has after the whole key.

@@ -1,11 +1,8 @@
 -- Counted from `i` on, the byte is found at the same index as counted from `from` on.
 use mathlib.Core.Path.{◌≡◌}
 use Prim.Native.Nat.{◌+◌, ◌-◌}
-use native.Mathlib.Omega.{arith}
-use borrow.Author.Rules.{rules}
 use lib.ListN.{length, drop}
 use Rattle.meaning.specs.Text.{count_before}
-use Rattle.text.proofs.Bytes.{count_at, count_end}
 use Rattle.text.proofs.first_byte.Given as goal
 
 -- Counted from `i` on, the byte is found at the same index as counted from `from` on.

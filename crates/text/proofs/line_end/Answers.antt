@@ -1,23 +1,18 @@
 -- Where none of the eight bytes from `at` on ends the line, the end that is counted from behind them is the same.
-use mathlib.Core.Path.{◌≡◌, sym, ◌∙◌}
-use Prim.Native.Nat.{◌+◌, ◌-◌, ◌≤◌}
+use mathlib.Core.Path.{sym, ◌∙◌}
 use native.Mathlib.Omega.{arith}
-use lib.ListN.{length, drop}
-use Rattle.meaning.specs.Text.{count_before}
 use Rattle.text.proofs.Bytes.{count_end, count_past}
-use borrow.Author.Rules.{rules}
 use Rattle.text.proofs.line_end.Goals as goal
 
 pub returns-then-bytes-from : goal.returns-then-bytes-from
 returns-then-bytes-from c = let a = c.args in omega (arith, count_end 10 a.bytes.now a.from (omega arith))
 
 pub loop-at-preserved : goal.loop-at-preserved
-loop-at-preserved c =
-    (
-      omega arith,
-      omega (
-        arith,
-        count_past 10 c.args.bytes.now c.loop-at.at 8 (omega arith)
-            (sym c.ends_in_eight.ensures ∙ c.if-ends_in_eight.false),
-      ),
-    )
+loop-at-preserved c = (
+  omega arith,
+  omega (
+    arith,
+    count_past 10 c.args.bytes.now c.loop-at.at 8 (omega arith)
+        (sym c.ends_in_eight.ensures ∙ c.if-ends_in_eight.false),
+  ),
+)

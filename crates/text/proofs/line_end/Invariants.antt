@@ -1,11 +1,8 @@
 -- Where none of the eight bytes from `at` on ends the line, the end that is counted from behind them is the same.
-use mathlib.Core.Path.{◌≡◌, sym, ◌∙◌}
+use mathlib.Core.Path.{◌≡◌}
 use Prim.Native.Nat.{◌+◌, ◌-◌, ◌≤◌}
-use native.Mathlib.Omega.{arith}
 use lib.ListN.{length, drop}
 use Rattle.meaning.specs.Text.{count_before}
-use Rattle.text.proofs.Bytes.{count_end, count_past}
-use borrow.Author.Rules.{rules}
 use Rattle.text.proofs.line_end.Given as goal
 
 -- Where none of the eight bytes from `at` on ends the line, the end that is counted from behind them is the same.

@@ -1,17 +1,7 @@
 -- The digits passed are the number so far; with it in front, the rest of the part is the whole number. The loop is left where the part ends.
-use mathlib.Core.Path.{◌≡◌, sym, ◌∙◌}
-use mathlib.Core.Logic.{⊎_elim}
-use mathlib.Core.Bool.{true}
-use mathlib.Core.List.{List}
-use Prim.Native.Nat.{ℕ, ◌-◌}
-use native.Mathlib.Omega.{arith}
-use borrow.Author.Rules.{rules}
-use borrow.Author.Tests.{not-true, not-false}
-use lib.ListN.{length, get_or, drop}
-use Rattle.meaning.specs.Text.{is_digit, count_before}
-use Rattle.meaning.proofs.Tests.{between_reads}
-use Rattle.text.proofs.Bytes.{count_at, count_end}
-use Rattle.text.proofs.Numbers.{ten_digits_lem, Passed, none_passed, one_passed, no_digit, eleventh, starts_inside, empty, needless, number_read}
+use Prim.Native.Nat.{◌-◌}
+use lib.ListN.{length}
+use Rattle.text.proofs.Numbers.{Passed}
 use Rattle.text.proofs.parse_number.Given as goal
 
 -- The digits passed are the number so far; with it in front, the rest of the part is the whole number. The loop is left where the part ends.

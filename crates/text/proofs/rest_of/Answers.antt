@@ -1,7 +1,6 @@
 -- The part from an index to the end is what is left from that index on; past the end there is nothing left.
 use Prim.Native.Nat.{◌≤◌}
 use native.Mathlib.Omega.{arith}
-use borrow.Author.Rules.{rules}
 use lib.ListN.{length, drop_of_length-le}
 use lib.Seq.{drop-length}
 use Rattle.text.proofs.Bytes.{take_rest}

@@ -1,7 +1,6 @@
 -- `read_truck_fields`: the line fills the 20 words, so that the test on the words is the form's.
 use mathlib.Core.Path.{refl, sym}
 use native.Mathlib.Omega.{arith}
-use borrow.Author.Rules.{rules}
 use Rattle.meaning.specs.Files.{truck_ranges, truck_line}
 use Rattle.meaning.proofs.Fields.{ranges_below}
 use Rattle.lines.specs.Progress.{RefusesLargest}

@@ -1,12 +1,10 @@
 -- `trucks::read_trucks` meets its contract: before each turn the trucks so far have their words.
-use mathlib.Core.Path.{◌≡◌, refl, sym, ap, ◌∙◌}
-use Prim.Native.Nat.{ℕ, ◌+◌, ◌-◌, ◌*◌}
-use native.Mathlib.Omega.{arith}
-use borrow.Author.Rules.{rules}
-use lib.ListN.{length, replicate}
+use mathlib.Core.Path.{◌≡◌}
+use Prim.Native.Nat.{◌-◌}
+use lib.ListN.{length}
 use Rattle.meaning.specs.Files.{truck_lines}
 use Rattle.meaning.specs.Table.{truck_words}
-use Rattle.trucks.proofs.Repeat.{Repeat, Runs, first, next, done}
+use Rattle.trucks.proofs.Repeat.{Repeat, Runs}
 use Rattle.trucks.proofs.read_trucks.Given as goal
 
 -- `trucks::read_trucks` meets its contract: before each turn the trucks so far have their words.

@@ -1,5 +1,4 @@
 -- `views::bottom_field`: the field of the item that the first entry of the load numbers. A load has an entry.
-use borrow.Author.Rules.{rules}
 use Rattle.views.proofs.bottom_field.Goals as goal
 
 pub item_field-requires : goal.item_field-requires

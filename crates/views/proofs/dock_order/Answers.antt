@@ -3,7 +3,6 @@ use native.Mathlib.Omega.{arith}
 use Rattle.meaning.specs.Model.{truck_numbered}
 use Rattle.meaning.specs.Table.{instance_in}
 use Rattle.views.proofs.Stacks.{order_is, dock_unlisted, docks_listed}
-use borrow.Author.Rules.{rules}
 use Rattle.views.proofs.dock_order.Goals as goal
 
 -- `views::dock_order`: the order in the list of the supplier's docks; a supplier that the truck does not visit has none.

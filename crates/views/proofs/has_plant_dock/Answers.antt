@@ -1,10 +1,6 @@
 -- `views::has_plant_dock`: the dock is among all from `from` on exactly when it is among those that are left.
-use Prim.Native.Nat.{◌-◌}
 use native.Mathlib.Omega.{arith}
-use lib.ListN.{length}
-use Rattle.meaning.specs.Table.{instance_in}
-use Rattle.views.proofs.Loads.{Passed, passed_start, passed_found, passed_more, passed_end}
-use borrow.Author.Rules.{rules}
+use Rattle.views.proofs.Loads.{passed_start, passed_found, passed_more, passed_end}
 use Rattle.views.proofs.has_plant_dock.Goals as goal
 
 pub loop-j-init : goal.loop-j-init

@@ -1,12 +1,6 @@
 -- `views::load_sum`: what is summed and what is still to come make the whole sum.
-use Prim.Native.Nat.{◌-◌}
 use native.Mathlib.Omega.{arith}
-use lib.ListN.{length, get_or}
-use Rattle.meaning.specs.Model.{item}
-use Rattle.meaning.specs.Table.{instance_in}
-use Rattle.table.specs.Filled.{item_most}
-use Rattle.views.proofs.Loads.{Summed, summed_start, summed_more, summed_room, summed_end, item_ends}
-use borrow.Author.Rules.{rules}
+use Rattle.views.proofs.Loads.{summed_start, summed_more, summed_room, summed_end, item_ends}
 use Rattle.views.proofs.load_sum.Goals as goal
 
 pub loop-j-init : goal.loop-j-init

@@ -2,9 +2,7 @@
 use mathlib.Core.Path.{refl}
 use Prim.Native.Nat.{◌-◌}
 use native.Mathlib.Omega.{arith}
-use Rattle.meaning.specs.Table.{instance_in}
-use Rattle.views.proofs.Loads.{Counted, counted_start, counted_new, counted_again, counted_end}
-use borrow.Author.Rules.{rules}
+use Rattle.views.proofs.Loads.{counted_start, counted_new, counted_again, counted_end}
 use Rattle.views.proofs.plant_dock_count.Goals as goal
 
 pub loop-j-init : goal.loop-j-init

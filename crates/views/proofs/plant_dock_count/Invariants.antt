@@ -1,10 +1,6 @@
 -- `views::plant_dock_count`: the plant docks of the items from `j` on, each once: a dock is new where no item above has it.
-use mathlib.Core.Path.{refl}
-use Prim.Native.Nat.{◌-◌}
-use native.Mathlib.Omega.{arith}
 use Rattle.meaning.specs.Table.{instance_in}
-use Rattle.views.proofs.Loads.{Counted, counted_start, counted_new, counted_again, counted_end}
-use borrow.Author.Rules.{rules}
+use Rattle.views.proofs.Loads.{Counted}
 use Rattle.views.proofs.plant_dock_count.Given as goal
 
 -- `views::plant_dock_count`: the plant docks of the items from `j` on, each once: a dock is new where no item above has it.

@@ -1,6 +1,5 @@
 -- `views::plant_dock_order`: the order of the item's plant dock in the list of the truck's plant docks.
 use Rattle.views.proofs.Stacks.{order_is}
-use borrow.Author.Rules.{rules}
 use Rattle.views.proofs.plant_dock_order.Goals as goal
 
 pub returns : goal.returns

@@ -2,10 +2,7 @@
 use mathlib.Core.Path.{refl}
 use Prim.Native.Nat.{◌-◌}
 use native.Mathlib.Omega.{arith}
-use Rattle.meaning.specs.Table.{instance_in}
-use Rattle.meaning.proofs.Lists.{Down}
-use Rattle.views.proofs.Loads.{range_over, range_start, range_more, range_end}
-use borrow.Author.Rules.{rules}
+use Rattle.views.proofs.Loads.{range_start, range_more, range_end}
 use Rattle.views.proofs.plant_dock_range.Goals as goal
 
 pub loop-j-init : goal.loop-j-init

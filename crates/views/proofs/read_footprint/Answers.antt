@@ -1,6 +1,5 @@
 -- `views::read_footprint`: length and width are the bottom item's. A load has an entry.
 use native.Mathlib.Omega.{arith}
-use borrow.Author.Rules.{rules}
 use Rattle.views.proofs.read_footprint.Goals as goal
 
 pub item_field-length-requires : goal.item_field-length-requires

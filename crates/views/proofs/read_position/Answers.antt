@@ -1,7 +1,6 @@
 -- `views::read_position`: the three fields, in their ranges.
 use mathlib.Core.Path.{refl}
 use Rattle.views.proofs.Bounds.{position_in}
-use borrow.Author.Rules.{rules}
 use Rattle.views.proofs.read_position.Goals as goal
 
 pub returns : goal.returns

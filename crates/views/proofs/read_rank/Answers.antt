@@ -2,7 +2,6 @@
 use mathlib.Core.Path.{refl}
 use native.Mathlib.Omega.{arith}
 use Rattle.views.specs.Views.{rank_of}
-use borrow.Author.Rules.{rules}
 use Rattle.views.proofs.read_rank.Goals as goal
 
 pub item_field-supplier-requires : goal.item_field-supplier-requires

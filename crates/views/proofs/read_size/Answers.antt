@@ -2,7 +2,6 @@
 use mathlib.Core.Path.{refl}
 use Rattle.views.specs.Views.{size_of}
 use Rattle.views.proofs.Stacks.{nested_less}
-use borrow.Author.Rules.{rules}
 use Rattle.views.proofs.read_size.Goals as goal
 
 pub overflow_sub-result : goal.overflow_sub-result

@@ -1,5 +1,4 @@
 -- `views::stack_truck_field`: the field of the truck whose number the stack has.
-use borrow.Author.Rules.{rules}
 use Rattle.views.proofs.stack_truck_field.Goals as goal
 
 pub returns : goal.returns

@@ -1,5 +1,4 @@
 -- `views::supplier_dock_order`: with the loading order of the item's supplier.
-use borrow.Author.Rules.{rules}
 use Rattle.views.proofs.supplier_dock_order.Goals as goal
 
 pub returns : goal.returns

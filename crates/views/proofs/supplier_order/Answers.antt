@@ -1,6 +1,5 @@
 -- `views::supplier_order`: the order in the list of the truck's suppliers.
 use Rattle.views.proofs.Stacks.{order_is}
-use borrow.Author.Rules.{rules}
 use Rattle.views.proofs.supplier_order.Goals as goal
 
 pub returns : goal.returns

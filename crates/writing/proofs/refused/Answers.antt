@@ -1,7 +1,6 @@
 -- No file has a length.
 use mathlib.Core.Path.{refl}
 use Rattle.meaning.specs.Write.{written}
-use borrow.Author.Rules.{rules}
 use Rattle.writing.proofs.refused.Goals as goal
 
 -- No file has a length.

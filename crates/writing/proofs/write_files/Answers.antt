@@ -1,6 +1,5 @@
 -- The limits of document 01 leave room for every file.
 use Rattle.writing.proofs.Outcomes.{small_room}
-use borrow.Author.Rules.{rules}
 use Rattle.writing.proofs.write_files.Goals as goal
 
 pub write_within-requires : goal.write_within-requires

@@ -5,7 +5,6 @@ use native.Mathlib.Omega.{arith}
 use Rattle.meaning.specs.Write.{stored}
 use Rattle.stored.proofs.Scan.{fell, stood}
 use Rattle.writing.proofs.Outcomes.{stored_filled, stored_short, instance_short, plan_short, unfilled, both_written}
-use borrow.Author.Rules.{rules}
 use Rattle.writing.proofs.write_within.Goals as goal
 
 pub returns-then-instance-limits : goal.returns-then-instance-limits
@@ -22,18 +21,18 @@ returns-then-not-is_stored c =
 pub write_instance-instance_length-requires : goal.write_instance-instance_length-requires
 write_instance-instance_length-requires c =
     let passed : stored c.args.limits c.args.t.now ≡ true =
-        sym c.is_stored.ensures ∙ stood _ c.if-not-is_stored.false-raw in
+    sym c.is_stored.ensures ∙ stood _ c.if-not-is_stored.false-raw in
     (stored_filled c.requires.bounded c.args.t.now passed, omega (arith, stored_short c.args.limits c.args.t.now passed))
 
 pub write_plan-plan_length-requires : goal.write_plan-plan_length-requires
 write_plan-plan_length-requires c =
     let passed : stored c.args.limits c.args.t.now ≡ true =
-        sym c.is_stored.ensures ∙ stood _ c.if-not-is_stored.false-raw in
+    sym c.is_stored.ensures ∙ stood _ c.if-not-is_stored.false-raw in
     (stored_filled c.requires.bounded c.args.t.now passed, omega (arith, stored_short c.args.limits c.args.t.now passed))
 
 pub returns : goal.returns
 returns c =
     let passed : stored c.args.limits c.args.t.now ≡ true =
-        sym c.is_stored.ensures ∙ stood _ c.if-not-is_stored.false-raw in
+    sym c.is_stored.ensures ∙ stood _ c.if-not-is_stored.false-raw in
     both_written c.args.limits c.args.t.now c.args.instance.now c.args.plan.now (omega arith) (omega arith) _ _ _ passed refl c.write_instance-instance_length.ensures
     c.write_plan-plan_length.ensures
