@@ -54,7 +54,7 @@ pub record FieldsNamed : Type 0 where
   pub truck : (t : Truck) → length t.fields ≡ 20 → values truck_fields t ≡ t.fields
   pub stack : (trucks : ℕ) (s : Stack) → length s.fields ≡ 6 → values (stack_fields trucks) s ≡ s.fields
 
--- ---- reading (proofs/Ranges: read_in_range_lem, read-fits; proofs/Printed: read_printed_lem)
+-- ---- reading (proofs/Ranges: read_in_range_lem, read_fits; proofs/Printed: read_printed_lem)
 -- what is read has every entry in range
 abbrev pub ReadInRange : Limits → Type 0
 ReadInRange m = (instance plan : List ℕ) (r : Readable m instance plan) → InRange m r.says r.stacks
@@ -203,7 +203,7 @@ Decided m =
     (tableLength : ℕ) (instance plan : List ℕ) (r : ReadableInto m tableLength instance plan)
     → DecidedBy r.files.says r.files.stacks (answer m tableLength instance plan)
 
--- ---- demand 3 (proofs/Feasible: loading_kept_exactly_lem, accepted_when_feasible_lem; proofs/AnyOrder: order_free_lem, any-order)
+-- ---- demand 3 (proofs/Feasible: loading_kept_exactly_lem, accepted_when_feasible_lem; proofs/AnyOrder: order_free_lem, any_order)
 -- a readable plan keeps all rules but 9 exactly when its picture holds but for rule 9
 abbrev pub LoadingKeptExactly : Limits → Type 0
 LoadingKeptExactly m =

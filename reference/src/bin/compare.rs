@@ -95,7 +95,7 @@ fn parse(arguments: &[String]) -> Option<Order> {
 /// True where every case agrees.
 fn compare(order: &Order) -> Result<bool, String> {
     let cases = read_cases(order)?;
-    let scratch = std::env::temp_dir().join("kaqlluwe-compare");
+    let scratch = std::env::temp_dir().join(format!("kaqlluwe-compare-{}", std::process::id()));
     copy_definitions(&scratch)?;
     let mut differing = BTreeSet::new();
     // A case agrees only where a run with its theorems was proved, so those that fail are left out and the rest runs again.
@@ -118,6 +118,8 @@ fn compare(order: &Order) -> Result<bool, String> {
         }
         differing.extend(failed);
     }
+    // Kept where the kernel could not tell, so that its crates can be read.
+    let _ = std::fs::remove_dir_all(&scratch);
     let mut tally = Tally::default();
     for (index, case) in cases.iter().enumerate() {
         tally.count(case.answer.number, !differing.contains(&index));
