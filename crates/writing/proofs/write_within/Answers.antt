@@ -3,7 +3,6 @@ use mathlib.Core.Path.{◌≡◌, refl, sym, ◌∙◌}
 use mathlib.Core.Bool.{true}
 use native.Mathlib.Omega.{arith}
 use Rattle.meaning.specs.Write.{stored}
-use Rattle.stored.proofs.Scan.{fell, stood}
 use Rattle.writing.proofs.Outcomes.{stored_filled, stored_short, instance_short, plan_short, unfilled, both_written}
 use Rattle.writing.proofs.write_within.Goals as goal
 
@@ -15,24 +14,21 @@ returns-then-plan-limits c = plan_short c.args.limits c.args.t.now c.args.instan
 
 pub returns-then-not-is_stored : goal.returns-then-not-is_stored
 returns-then-not-is_stored c =
-    unfilled c.args.limits c.args.t.now c.args.instance.now c.args.plan.now (omega arith) (omega arith) _ (sym c.is_stored.ensures ∙ fell _ c.if-not-is_stored.true-raw)
+    unfilled c.args.limits c.args.t.now c.args.instance.now c.args.plan.now (omega arith) (omega arith) _ (sym c.is_stored.ensures ∙ c.if-not-is_stored.true)
     c.refused-then-not-is_stored.ensures
 
 pub write_instance-instance_length-requires : goal.write_instance-instance_length-requires
 write_instance-instance_length-requires c =
-    let passed : stored c.args.limits c.args.t.now ≡ true =
-    sym c.is_stored.ensures ∙ stood _ c.if-not-is_stored.false-raw in
-    (stored_filled c.requires.bounded c.args.t.now passed, omega (arith, stored_short c.args.limits c.args.t.now passed))
+    let instance_passed : stored c.args.limits c.args.t.now ≡ true = sym c.is_stored.ensures ∙ c.if-not-is_stored.false in
+    (stored_filled c.requires.bounded c.args.t.now instance_passed, omega (arith, stored_short c.args.limits c.args.t.now instance_passed))
 
 pub write_plan-plan_length-requires : goal.write_plan-plan_length-requires
 write_plan-plan_length-requires c =
-    let passed : stored c.args.limits c.args.t.now ≡ true =
-    sym c.is_stored.ensures ∙ stood _ c.if-not-is_stored.false-raw in
-    (stored_filled c.requires.bounded c.args.t.now passed, omega (arith, stored_short c.args.limits c.args.t.now passed))
+    let plan_passed : stored c.args.limits c.args.t.now ≡ true = sym c.is_stored.ensures ∙ c.if-not-is_stored.false in
+    (stored_filled c.requires.bounded c.args.t.now plan_passed, omega (arith, stored_short c.args.limits c.args.t.now plan_passed))
 
 pub returns : goal.returns
 returns c =
-    let passed : stored c.args.limits c.args.t.now ≡ true =
-    sym c.is_stored.ensures ∙ stood _ c.if-not-is_stored.false-raw in
-    both_written c.args.limits c.args.t.now c.args.instance.now c.args.plan.now (omega arith) (omega arith) _ _ _ passed refl c.write_instance-instance_length.ensures
+    let both_passed : stored c.args.limits c.args.t.now ≡ true = sym c.is_stored.ensures ∙ c.if-not-is_stored.false in
+    both_written c.args.limits c.args.t.now c.args.instance.now c.args.plan.now (omega arith) (omega arith) _ _ _ both_passed refl c.write_instance-instance_length.ensures
     c.write_plan-plan_length.ensures
