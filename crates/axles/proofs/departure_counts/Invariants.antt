@@ -3,7 +3,6 @@ use Prim.Native.Nat.{◌-◌}
 use Rattle.axles.proofs.Places.{NoneBefore}
 use Rattle.axles.proofs.departure_counts.Given as goal
 
--- No stack passed so far is on, so the departure counts exactly where one of those left is.
 abbrev pub invariant-loop-k : goal.invariant-loop-k
 invariant-loop-k l = NoneBefore l.rows l.departure l.initial.k l.k l.end
 

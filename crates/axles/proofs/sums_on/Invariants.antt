@@ -2,7 +2,6 @@
 use Rattle.axles.proofs.Places.{SumsFrom}
 use Rattle.axles.proofs.sums_on.Given as goal
 
--- Both sums are those of the places from k on, which are within the bounds of all, so they fit.
 abbrev pub invariant-loop-k : goal.invariant-loop-k
 invariant-loop-k l = SumsFrom l.rows l.departure l.twice l.start l.k l.initial.k l.weight l.levers
 

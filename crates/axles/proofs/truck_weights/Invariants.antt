@@ -4,7 +4,6 @@ use Rattle.axles.specs.Weights.{BoundedRows, BoundedAxles, middle_under, rear_un
 use Rattle.axles.proofs.Departures.{AxleFrom}
 use Rattle.axles.proofs.truck_weights.Given as goal
 
--- The loop keeps the lowest places of the departures after the current one; all stacks are on one used truck.
 abbrev pub invariant-loop-departure : goal.invariant-loop-departure
 invariant-loop-departure l = let u : UsedTruck = record { truck = l.truck; copy = l.copy } in
     BoundedRows l.rows l.on × BoundedAxles l.axles × AxleFrom middle_under l.rows l.on l.axles u l.initial.departure l.departure l.middle

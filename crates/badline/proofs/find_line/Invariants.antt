@@ -4,7 +4,6 @@ use lib.ListN.{length}
 use Rattle.badline.proofs.Spans.{Walk}
 use Rattle.badline.proofs.find_line.Given as goal
 
--- The walk goes from line to line; each step leaves the line that is looked for where it was.
 abbrev pub invariant-loop-at : goal.invariant-loop-at
 invariant-loop-at l = Walk l.file l.line l.left l.at
 

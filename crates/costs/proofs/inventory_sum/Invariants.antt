@@ -4,7 +4,6 @@ use Rattle.meaning.specs.Verdict.{inventory_cost}
 use Rattle.costs.proofs.Costs.{Summed, stack_bound}
 use Rattle.costs.proofs.inventory_sum.Given as goal
 
--- `costs::inventory_sum`: what is summed is the cost of the stacks from the current one on.
 abbrev pub invariant-loop-s : goal.invariant-loop-s
 invariant-loop-s l = Summed (inventory_cost (instance_in l.limits l.t)) stack_bound (stacks_in l.limits l.t) l.s l.sum
 

@@ -4,7 +4,6 @@ use Rattle.table.specs.Filled.{stack_at}
 use Rattle.costs.proofs.Costs.{Summed, item_cost, item_bound}
 use Rattle.costs.proofs.stack_inventory.Given as goal
 
--- `costs::stack_inventory`: what is summed is the cost of the items from the current one on.
 abbrev pub invariant-loop-j : goal.invariant-loop-j
 invariant-loop-j l = Summed (item_cost (instance_in l.limits l.t) (stack_at (stacks_in l.limits l.t) l.s)) item_bound l.items l.j l.sum
 

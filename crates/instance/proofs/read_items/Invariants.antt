@@ -7,7 +7,6 @@ use Rattle.meaning.specs.Files.{item_line}
 use Rattle.trucks.proofs.Repeat.{Repeat, Runs}
 use Rattle.instance.proofs.read_items.Given as goal
 
--- `read_items`: so far k items are read, and their words stand in front of zeros.
 abbrev pub invariant-loop-k : goal.invariant-loop-k
 invariant-loop-k l = (length l.part ≡ length l.initial.part) × Repeat l.file (line item_line) (Runs (length l.initial.part) 16 (λ ns. ns)) l.count l.initial.q l.part l.q l.k
 

@@ -5,7 +5,6 @@ use lib.ListN.{length}
 use mathlib.Core.Path.{◌≡◌}
 use Rattle.judging.proofs.ask_trucks.Given as goal
 
--- `judging::ask_trucks`: what the used trucks from the current place on answer is right, and no truck has stacks on both sides of it.
 abbrev pub invariant-loop-end : goal.invariant-loop-end
 invariant-loop-end l = Told l.asked (instance_in l.limits l.t) (stacks_in l.limits l.t) l.end (record { single_pair = l.single_pair; placement = l.placement; weights = l.weights })
     l.used.count l.used.cost

@@ -3,7 +3,6 @@ use Prim.Native.Nat.{◌-◌}
 use Rattle.judging.proofs.Verdicts.{KeptTo}
 use Rattle.judging.proofs.first_rank.Given as goal
 
--- `judging::first_rank`: the rules before the current rank are told to be kept.
 abbrev pub invariant-loop-rank : goal.invariant-loop-rank
 invariant-loop-rank l = KeptTo l.found l.upto l.rank
 

@@ -5,7 +5,6 @@ use Rattle.printing.proofs.Progress.{Listing}
 use Rattle.listing.specs.Parts.{stack_bytes}
 use Rattle.listing.proofs.write_stacks.Given as goal
 
--- `listing::write_stacks`: the stacks from the next one on are still to be written.
 abbrev pub invariant-loop-s : goal.invariant-loop-s
 invariant-loop-s l = Listing stack_bytes (stacks_in l.limits l.t) l.initial.out l.out l.at l.s
 

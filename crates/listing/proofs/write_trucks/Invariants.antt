@@ -5,7 +5,6 @@ use Rattle.meaning.specs.Table.{instance_in}
 use Rattle.printing.proofs.Progress.{Listing}
 use Rattle.listing.proofs.write_trucks.Given as goal
 
--- `listing::write_trucks`: the trucks from the next one on are still to be written.
 abbrev pub invariant-loop-n : goal.invariant-loop-n
 invariant-loop-n l = Listing printed_truck (instance_in l.limits l.t).trucks l.initial.out l.out l.at l.n
 

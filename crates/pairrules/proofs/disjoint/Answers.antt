@@ -2,6 +2,5 @@
 use mathlib.Core.Path.{refl}
 use Rattle.pairrules.proofs.disjoint.Goals as goal
 
--- `pairrules::disjoint`: the test is the definition's, word for word.
 pub returns : goal.returns
 returns c = refl

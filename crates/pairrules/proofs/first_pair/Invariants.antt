@@ -8,7 +8,6 @@ use Rattle.pairrules.specs.PairRules.{KnownBlock}
 use Rattle.pairrules.proofs.Search.{StacksPassed, PartnersPassed}
 use Rattle.pairrules.proofs.first_pair.Given as goal
 
--- `pairrules::first_pair`: the stacks and their partners are taken by ascending number, so the first broken pair is the lowest; what is not asked has been.
 abbrev pub invariant-loop-b : goal.invariant-loop-b
 invariant-loop-b l = StacksPassed l.rule l.limits l.t l.rows l.by_number l.k × PartnersPassed l.rule l.limits l.t l.rows l.by_number l.k l.a l.on l.b × (l.found ≡ Nothing)
 

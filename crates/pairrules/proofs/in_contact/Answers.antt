@@ -6,7 +6,6 @@ use borrow.Author.Tests.{eq-eqb, ne_eqb}
 use lib.Dec.{leb}
 use Rattle.pairrules.proofs.in_contact.Goals as goal
 
--- `pairrules::in_contact`: the test is the definition's; an edge that is long enough reaches no further than the stack on which it begins.
 pub returns-then-b-a : goal.returns-then-b-a
 returns-then-b-a c = rw (ne_eqb c.args.b.xe c.args.a.x (λ q. omega (arith, q, c.if-b-a.true))) refl
 

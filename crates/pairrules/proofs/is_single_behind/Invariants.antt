@@ -8,7 +8,6 @@ use Rattle.manifest.specs.Manifest.{manifest_at}
 use Rattle.pairrules.proofs.Places.{Upto}
 use Rattle.pairrules.proofs.is_single_behind.Given as goal
 
--- `pairrules::is_single_behind`: a stack without two plant docks keeps the rule with any other; else each behind it is asked.
 abbrev pub invariant-loop-b : goal.invariant-loop-b
 invariant-loop-b l = Upto (λ k. single_pair (instance_in l.limits l.t) (manifest_at (stacks_in l.limits l.t) l.a) (manifest_at (stacks_in l.limits l.t) k) ≡ true) (l.a + 1) l.end l.b
 

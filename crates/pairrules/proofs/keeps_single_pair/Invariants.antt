@@ -9,7 +9,6 @@ use Rattle.pairrules.specs.PairRules.{Each}
 use Rattle.pairrules.proofs.Places.{Upto}
 use Rattle.pairrules.proofs.keeps_single_pair.Given as goal
 
--- `pairrules::keeps_single_pair`: the stacks passed keep the rule with those behind them, and in the end that is every pair.
 abbrev pub invariant-loop-a : goal.invariant-loop-a
 invariant-loop-a l = Upto (λ j. Each (λ k. single_pair (instance_in l.limits l.t) (manifest_at (stacks_in l.limits l.t) j) (manifest_at (stacks_in l.limits l.t) k) ≡ true) (j + 1) l.end) l.initial.a l.end l.a
 

@@ -2,7 +2,6 @@
 use native.Mathlib.Omega.{arith}
 use Rattle.pairrules.proofs.lower.Goals as goal
 
--- `pairrules::lower`: the first where it is less, else the second.
 pub returns-then-a-b : goal.returns-then-a-b
 returns-then-a-b c = omega (arith, c.if-a-b.true)
 

@@ -3,7 +3,6 @@ use Prim.Native.Nat.{◌-◌}
 use Rattle.placement.proofs.Trailer.{InOrderUpto}
 use Rattle.placement.proofs.is_in_order.Given as goal
 
--- `placement::is_in_order`: every stack before it along the trailer is asked.
 abbrev pub invariant-loop-j : goal.invariant-loop-j
 invariant-loop-j l = InOrderUpto l.rows l.on l.along l.k l.place l.j
 

@@ -3,7 +3,6 @@ use Prim.Native.Nat.{◌-◌}
 use Rattle.printing.proofs.Digits.{Counting}
 use Rattle.printing.proofs.digit_count.Given as goal
 
--- `printing::digit_count`: powers of ten up to the first above the number.
 abbrev pub invariant-loop-power : goal.invariant-loop-power
 invariant-loop-power l = Counting l.n l.count l.power
 

@@ -2,7 +2,6 @@
 use Rattle.printing.proofs.Digits.{Placing}
 use Rattle.printing.proofs.put_digits.Given as goal
 
--- `printing::put_digits`: the digits of the rest in front of those that stand are the digits of the number.
 abbrev pub invariant-loop-rest : goal.invariant-loop-rest
 invariant-loop-rest l = Placing l.n l.out l.rest l.at
 

@@ -6,7 +6,6 @@ use Rattle.printing.proofs.Progress.{Onward}
 use Rattle.printing.proofs.Line.{separated}
 use Rattle.printing.proofs.write_numbers.Given as goal
 
--- `printing::write_numbers`: the numbers from place `i` on are still to be written.
 abbrev pub invariant-loop-i : goal.invariant-loop-i
 invariant-loop-i l = (l.i ≤ length l.numbers) × Onward (numbers_bytes l.numbers) l.initial.out l.out l.at (separated (drop l.i l.numbers))
 

@@ -5,7 +5,6 @@ use lib.ListN.{length, drop}
 use Rattle.meaning.specs.Lists.{all, between}
 use Rattle.ranges.proofs.all_between.Given as goal
 
--- From the last word down: the words from the index on decide what was found so far.
 abbrev pub invariant-loop-i : goal.invariant-loop-i
 invariant-loop-i l = (l.i ≤ length l.words) × (l.inside ≡ all (between l.low l.high) (drop l.i l.words))
 

@@ -5,7 +5,6 @@ use lib.ListN.{length, drop}
 use Rattle.meaning.specs.Lists.{distinct}
 use Rattle.ranges.proofs.are_distinct.Given as goal
 
--- The words from the index on decide: they are distinct where all words are, since those before are listed once only.
 abbrev pub invariant-loop-i : goal.invariant-loop-i
 invariant-loop-i l = (l.i ≤ length l.words) × (distinct (drop l.i l.words) ≡ distinct l.words)
 

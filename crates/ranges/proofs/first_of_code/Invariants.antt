@@ -6,7 +6,6 @@ use Rattle.meaning.specs.Lists.{order_from, order_in}
 use Rattle.ranges.proofs.Clashes.{codes}
 use Rattle.ranges.proofs.first_of_code.Given as goal
 
--- The first item of a code among those that are left is the first among all.
 abbrev pub invariant-loop-passed : goal.invariant-loop-passed
 invariant-loop-passed l = (l.passed ≤ l.count) × (order_from (l.passed + 1) l.code (drop l.passed (codes l.items l.count)) ≡ order_in (codes l.items l.count) l.code)
 

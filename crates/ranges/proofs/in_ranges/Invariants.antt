@@ -6,7 +6,6 @@ use Rattle.meaning.specs.Files.{all_within}
 use Rattle.ranges.specs.Ranges.{ranges_between}
 use Rattle.ranges.proofs.in_ranges.Given as goal
 
--- From the last word down: the words from the index on decide what was found so far.
 abbrev pub invariant-loop-i : goal.invariant-loop-i
 invariant-loop-i l = (l.i ≤ length l.words) × (l.inside ≡ all_within (ranges_between (drop l.i l.lows) (drop l.i l.highs)) (drop l.i l.words))
 

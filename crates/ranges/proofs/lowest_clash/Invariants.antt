@@ -2,7 +2,6 @@
 use Rattle.ranges.proofs.Clashes.{LowestAbove}
 use Rattle.ranges.proofs.lowest_clash.Given as goal
 
--- Going down, a clash that is found is lower than all found before; where none is found, what was lowest stays so.
 abbrev pub invariant-loop-n : goal.invariant-loop-n
 invariant-loop-n l = LowestAbove l.items l.count l.n l.clash
 

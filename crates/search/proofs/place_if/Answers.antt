@@ -2,7 +2,6 @@
 use Rattle.search.proofs.Lowest.{broken_at, kept_at}
 use Rattle.search.proofs.place_if.Goals as goal
 
--- `search::place_if`: the lowest of one place is that place, of none it is none.
 pub returns-then-broken : goal.returns-then-broken
 returns-then-broken c = broken_at _ _ c.if-broken.true
 

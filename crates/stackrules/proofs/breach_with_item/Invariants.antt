@@ -7,7 +7,6 @@ use Rattle.stackrules.specs.StackRules.{with_item}
 use Rattle.stackrules.proofs.First.{KeptTo}
 use Rattle.stackrules.proofs.breach_with_item.Given as goal
 
--- `stackrules::breach_with_item`: the rules are asked one after another.
 abbrev pub invariant-loop-rank : goal.invariant-loop-rank
 invariant-loop-rank l = KeptTo (with_item (instance_in l.limits l.t) (manifest_at (stacks_in l.limits l.t) l.k) l.n) l.rank
 

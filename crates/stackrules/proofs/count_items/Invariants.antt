@@ -6,7 +6,6 @@ use Rattle.meaning.specs.Table.{instance_in, stacks_in}
 use Rattle.stackrules.specs.StackRules.{Tally}
 use Rattle.stackrules.proofs.count_items.Given as goal
 
--- `stackrules::count_items`: from the last stack to the first, each adds its items to the counts of the stacks behind it.
 abbrev pub invariant-loop-s : goal.invariant-loop-s
 invariant-loop-s l = let p = stacks_in l.limits l.t in
     (l.s ≤ length p) × (length l.times ≡ length l.initial.times) × Tally (length (instance_in l.limits l.t).items) (drop l.s p) l.times

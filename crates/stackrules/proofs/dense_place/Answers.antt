@@ -14,7 +14,6 @@ bottom_field-requires c = search (rules, stack_there)
 pub bottom_field-requires-2 : goal.bottom_field-requires-2
 bottom_field-requires-2 c = search (rules, stack_there)
 
--- `stackrules::dense_place`: the test compares the products of rule 21.
 pub density_kept-kept-requires : goal.density_kept-kept-requires
 density_kept-kept-requires c = (
   omega (arith, c.row_word-weight.ensures, word_most c.requires.0 c.args.k c.requires.1 8 (omega arith)),

@@ -8,7 +8,6 @@ use Rattle.stackrules.proofs.docks_place.Goals as goal
 pub truck_field-two_docks-requires : goal.truck_field-two_docks-requires
 truck_field-two_docks-requires c = search (rules, truck_there)
 
--- `stackrules::docks_place`: two plant docks are consecutive exactly when the range of their orders says so.
 pub overflow_add-after : goal.overflow_add-after
 overflow_add-after c = record { fits = omega (arith, c.row_word-after.ensures, word_most c.requires.0 c.args.k c.requires.1 14 (omega arith)) }
 

@@ -4,7 +4,6 @@ use Rattle.table.specs.Filled.{stack_at}
 use Rattle.stackrules.proofs.Items.{docks_listed}
 use Rattle.stackrules.proofs.docks_served.Goals as goal
 
--- `stackrules::docks_served`: both loading orders are those on the stack's truck.
 pub returns : goal.returns
 returns c =
     docks_listed (instance_in c.args.limits c.args.t.now) (stack_at (stacks_in c.args.limits c.args.t.now) c.args.s) c.args.n

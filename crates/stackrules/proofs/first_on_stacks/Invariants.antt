@@ -7,7 +7,6 @@ use Rattle.manifest.specs.Manifest.{in_manifest}
 use Rattle.stackrules.proofs.First.{FirstFrom}
 use Rattle.stackrules.proofs.first_on_stacks.Given as goal
 
--- `stackrules::first_on_stacks`: the breach so far is that of the stacks so far, in the end of all.
 abbrev pub invariant-loop-k : goal.invariant-loop-k
 invariant-loop-k l = FirstFrom (λ (s : Stack) rule. rule_places rule (instance_in l.limits l.t) (s ∷ [])) (in_manifest (stacks_in l.limits l.t)) l.k l.first
 

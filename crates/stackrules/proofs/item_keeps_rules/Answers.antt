@@ -5,7 +5,6 @@ use Rattle.table.specs.Filled.{stack_at}
 use Rattle.stackrules.proofs.Kept.{every_tested}
 use Rattle.stackrules.proofs.item_keeps_rules.Goals as goal
 
--- `stackrules::item_keeps_rules`: the seven tests are those of the rules on items.
 pub returns : goal.returns
 returns c =
     let i = instance_in c.args.limits c.args.t.now in

@@ -2,7 +2,6 @@
 use Rattle.stackrules.proofs.Tally.{FoundAbove}
 use Rattle.stackrules.proofs.lowest_not_once.Given as goal
 
--- `stackrules::lowest_not_once`: of the items above `n` the lowest place is kept; the words of the counts say how often each item is loaded.
 abbrev pub invariant-loop-n : goal.invariant-loop-n
 invariant-loop-n l = FoundAbove l.times l.initial.n l.n l.found
 

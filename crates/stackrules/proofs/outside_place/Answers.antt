@@ -13,7 +13,6 @@ truck_field-requires c = search (rules, truck_there)
 pub truck_field-requires-2 : goal.truck_field-requires-2
 truck_field-requires-2 c = search (rules, truck_there)
 
--- `stackrules::outside_place`: the tests compare the extents and the limits of rule 22.
 pub truck_field-requires-3 : goal.truck_field-requires-3
 truck_field-requires-3 c = (c.requires.0.filled, truck_there c.requires.0 c.requires.1 c.row_word-truck.ensures, omega arith)
 

@@ -6,7 +6,6 @@ use Rattle.meaning.specs.Model.{truck_numbered}
 use Rattle.meaning.specs.Table.{instance_in}
 use Rattle.stackrules.proofs.product_carried.Goals as goal
 
--- `stackrules::product_carried`: the list is that of the stack's truck.
 pub returns : goal.returns
 returns c =
     let i = instance_in c.args.limits c.args.t.now in

@@ -2,7 +2,6 @@
 use borrow.Author.Tests.{lt-ltb, le-ltb}
 use Rattle.stackrules.proofs.sooner.Goals as goal
 
--- `stackrules::sooner`: each way out is a case of the definition.
 pub returns-then-a-b : goal.returns-then-a-b
 returns-then-a-b c = rw (lt-ltb _ _ c.if-a-b.true)
 

@@ -5,7 +5,6 @@ use Rattle.stackrules.specs.StackRules.{with_item}
 use Rattle.stackrules.proofs.First.{FirstFrom}
 use Rattle.stackrules.proofs.stack_breach.Given as goal
 
--- `stackrules::stack_breach`: the breach so far is that of the items from the top down, in the end of the whole stack.
 abbrev pub invariant-loop-j : goal.invariant-loop-j
 invariant-loop-j l = FirstFrom (with_item (instance_in l.limits l.t) (manifest_at (stacks_in l.limits l.t) l.k)) l.items l.j l.first
 

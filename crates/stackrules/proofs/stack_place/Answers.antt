@@ -4,7 +4,6 @@ use Rattle.stackrules.specs.StackRules.{with_item}
 use Rattle.stackrules.proofs.Stacks.{stack_there, item_is}
 use Rattle.stackrules.proofs.stack_place.Goals as goal
 
--- `stackrules::stack_place`: each arm has the places of its kind of rule.
 pub returns-in-EachItem : goal.returns-in-EachItem
 returns-in-EachItem c = rw c.in-EachItem.is (item_is c.requires.0 c.requires.1 c.row_word.ensures _ _ c.stack_at.ensures c.item_kept-kept.ensures c.place_if.ensures)
 

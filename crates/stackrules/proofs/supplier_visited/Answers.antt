@@ -6,7 +6,6 @@ use Rattle.table.specs.Filled.{stack_at}
 use Rattle.stackrules.proofs.Items.{order_listed}
 use Rattle.stackrules.proofs.supplier_visited.Goals as goal
 
--- `stackrules::supplier_visited`: an identifier has a loading order exactly when it is listed.
 pub returns : goal.returns
 returns c =
     let i = instance_in c.args.limits c.args.t.now in

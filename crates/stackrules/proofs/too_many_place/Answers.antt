@@ -8,7 +8,6 @@ use Rattle.stackrules.proofs.too_many_place.Goals as goal
 pub load-items-requires : goal.load-items-requires
 load-items-requires c = search (rules, stack_there)
 
--- `stackrules::too_many_place`: the test compares the count and the limit of rule 20.
 pub item_field-requires : goal.item_field-requires
 item_field-requires c = (c.requires.0.filled, c.load-items.ensures.1.entries 0 c.load-items.ensures.1.some, omega arith)
 

@@ -9,7 +9,6 @@ load-items-requires c = search (rules, stack_there)
 pub truck_field-requires : goal.truck_field-requires
 truck_field-requires c = search (rules, truck_there)
 
--- `stackrules::top_heavy_place`: the test compares the weight and the limit of rule 19.
 pub returns : goal.returns
 returns c =
     top_heavy_is c.requires.0 c.requires.1 c.row_word-2.ensures c.stack_at.ensures c.load-items.ensures.0

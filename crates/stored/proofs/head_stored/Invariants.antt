@@ -6,7 +6,6 @@ use Rattle.ranges.specs.Ranges.{head_range}
 use Rattle.stored.proofs.Scan.{Passed}
 use Rattle.stored.proofs.head_stored.Given as goal
 
--- Number after number: those in range do not decide any more.
 abbrev pub invariant-loop-place : goal.invariant-loop-place
 invariant-loop-place l = (l.place ≤ 6) × Passed (λ k. between (head_range l.limits k).low (head_range l.limits k).high (get_or l.words k 0)) (up_from 0 6) l.place
 

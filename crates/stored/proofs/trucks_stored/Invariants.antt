@@ -5,7 +5,6 @@ use Rattle.stored.specs.Parts.{truck_stored}
 use Rattle.stored.proofs.Scan.{Passed}
 use Rattle.stored.proofs.trucks_stored.Given as goal
 
--- Row after row: those that passed do not decide any more.
 abbrev pub invariant-loop-k : goal.invariant-loop-k
 invariant-loop-k l = (l.k ≤ l.count) × Passed truck_stored (chunks 160 l.count l.words) l.k
 

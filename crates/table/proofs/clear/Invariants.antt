@@ -5,7 +5,6 @@ use Prim.Native.Nat.{◌-◌, ◌≤◌}
 use lib.ListN.{length, drop, replicate}
 use Rattle.table.proofs.clear.Given as goal
 
--- `table::clear` makes every word zero: those before `i` are zero, the others as they were.
 abbrev pub invariant-loop-i : goal.invariant-loop-i
 invariant-loop-i l = (l.i ≤ length l.initial.words) × (l.words ≡ replicate l.i 0 ++ drop l.i l.initial.words) × (length l.words ≡ length l.initial.words)
 

@@ -5,7 +5,6 @@ use lib.ListN.{length, drop}
 use Rattle.meaning.specs.Lists.{listed}
 use Rattle.table.proofs.is_listed.Given as goal
 
--- From the last word down: the words from the index on decide what was found so far.
 abbrev pub invariant-loop-i : goal.invariant-loop-i
 invariant-loop-i l = (l.i ≤ length l.list) × (l.found ≡ listed l.identifier (drop l.i l.list))
 

@@ -5,7 +5,6 @@ use lib.ListN.{length, drop}
 use Rattle.meaning.specs.Text.{value_after}
 use Rattle.text.proofs.begins_with.Given as goal
 
--- What the line from `i` on has after the key from `i` on is what the whole line has after the whole key.
 abbrev pub invariant-loop-i : goal.invariant-loop-i
 invariant-loop-i l = (l.i ≤ length l.key) × (value_after (drop l.i l.key) (drop l.i l.line) ≡ value_after l.key l.line)
 

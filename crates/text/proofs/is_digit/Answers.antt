@@ -2,7 +2,6 @@
 use borrow.Author.Tests.{le-leb, lt-leb}
 use Rattle.text.proofs.is_digit.Goals as goal
 
--- The byte lies between the two digits, tested one after the other.
 pub returns-then-byte-ge48 : goal.returns-then-byte-ge48
 returns-then-byte-ge48 c = simp (le-leb _ _ c.if-byte-ge48.true)
 

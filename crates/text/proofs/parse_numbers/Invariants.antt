@@ -5,7 +5,6 @@ use Rattle.meaning.specs.Text.{comma_parts}
 use Rattle.text.proofs.Values.{ToCome}
 use Rattle.text.proofs.parse_numbers.Given as goal
 
--- The parts still to come give the same answer and the same words as all parts do; each turn takes the first of them.
 abbrev pub invariant-loop-w : goal.invariant-loop-w
 invariant-loop-w l = (l.from ≤ length l.value) × ToCome l.least (comma_parts l.value) l.initial.out l.out l.count (comma_parts (drop l.from l.value))
 

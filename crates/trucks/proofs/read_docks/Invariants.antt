@@ -8,7 +8,6 @@ use Rattle.trucks.proofs.Repeat.{Repeat}
 use Rattle.trucks.proofs.Docks.{Docks}
 use Rattle.trucks.proofs.read_docks.Given as goal
 
--- `trucks::read_docks` meets its contract: before each turn the suppliers so far have their words.
 abbrev pub invariant-loop-k : goal.invariant-loop-k
 invariant-loop-k l = (length l.part ≡ 72) × (l.suppliers ≤ 8) × Repeat l.file (line docks_line) Docks l.suppliers l.initial.q l.part l.q l.k
 

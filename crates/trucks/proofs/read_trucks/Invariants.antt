@@ -7,7 +7,6 @@ use Rattle.meaning.specs.Table.{truck_words}
 use Rattle.trucks.proofs.Repeat.{Repeat, Runs}
 use Rattle.trucks.proofs.read_trucks.Given as goal
 
--- `trucks::read_trucks` meets its contract: before each turn the trucks so far have their words.
 abbrev pub invariant-loop-k : goal.invariant-loop-k
 invariant-loop-k l = (length l.part ≡ length l.initial.part) × Repeat l.file truck_lines (Runs (length l.initial.part) 160 truck_words) l.count l.initial.q l.part l.q l.k
 

@@ -5,7 +5,6 @@ use Rattle.meaning.specs.Table.{instance_in}
 use Rattle.views.proofs.Stacks.{order_is, dock_unlisted, docks_listed}
 use Rattle.views.proofs.dock_order.Goals as goal
 
--- `views::dock_order`: the order in the list of the supplier's docks; a supplier that the truck does not visit has none.
 pub returns-then-supplier-eq0 : goal.returns-then-supplier-eq0
 returns-then-supplier-eq0 c =
     let a = c.args in

@@ -5,7 +5,6 @@ use Rattle.meaning.specs.Table.{instance_in}
 use Rattle.views.proofs.Loads.{Passed}
 use Rattle.views.proofs.has_plant_dock.Given as goal
 
--- `views::has_plant_dock`: the dock is among all from `from` on exactly when it is among those that are left.
 abbrev pub invariant-loop-j : goal.invariant-loop-j
 invariant-loop-j l = Passed (instance_in l.limits l.t) l.load l.dock l.from l.j
 

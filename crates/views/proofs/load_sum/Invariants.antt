@@ -7,7 +7,6 @@ use Rattle.table.specs.Filled.{item_most}
 use Rattle.views.proofs.Loads.{Summed}
 use Rattle.views.proofs.load_sum.Given as goal
 
--- `views::load_sum`: what is summed and what is still to come make the whole sum.
 abbrev pub invariant-loop-j : goal.invariant-loop-j
 invariant-loop-j l = Summed (λ k. get_or (item (instance_in l.limits l.t) k) l.field 0) (item_most l.field) l.load l.from l.sum l.j
 

@@ -4,7 +4,6 @@ use Rattle.meaning.proofs.Lists.{Down}
 use Rattle.views.proofs.Loads.{range_over}
 use Rattle.views.proofs.plant_dock_range.Given as goal
 
--- `views::plant_dock_range`: the range of the items from `j` on, as its definition has it.
 abbrev pub invariant-loop-j : goal.invariant-loop-j
 invariant-loop-j l = Down (range_over (instance_in l.limits l.t) l.truck) l.load l.j l.range
 

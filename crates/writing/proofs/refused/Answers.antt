@@ -3,7 +3,6 @@ use mathlib.Core.Path.{refl}
 use Rattle.meaning.specs.Write.{written}
 use Rattle.writing.proofs.refused.Goals as goal
 
--- No file has a length.
 pub returns : goal.returns
 unfolding written
 returns c = refl
