@@ -5,8 +5,7 @@ use denote.Struct.Props as logic
 use Rattle.meaning.specs.declared.Limits.{Limits}
 use Rattle.meaning.specs.Lists.{Every}
 use Rattle.meaning.specs.Model.{Stack, number}
-use Rattle.meaning.specs.Meets.{Meets, TruckMeets, InstanceMeets, StacksMeet, FilesMeet}
-use Rattle.meaning.specs.Files.{stack_line, load_line}
+use Rattle.meaning.specs.Meets.{StacksMeet}
 use Rattle.table.specs.Filled.{Room, Filled}
 
 every_prop : {A : Type 0} (P : A → Type 0) (l : List A) → ((x : A) → IsProp (P x)) → IsProp (Every P l)

@@ -1,7 +1,7 @@
 // The working table: where its parts begin, clearing, and the accessors. No other code knows where a word stands in a filled table.
 #![tactic(auto)]
 
-ghost use Rattle.std.specs.Prelude.{◌≡◌, ◌+◌, ◌*◌, ◌≤◌, ◌<◌, length, get_or, take, drop, replicate};
+ghost use Rattle.std.specs.Prelude.{◌≡◌, ◌+◌, ◌*◌, ◌≤◌, ◌<◌, length, get_or, take, drop, replicate, position, ◌==◌};
 ghost use Rattle.meaning.specs.Lists.{listed, order_in};
 ghost use Rattle.meaning.specs.Limits.{small, trucks_at, stacks_at, loads_at, named};
 ghost use Rattle.meaning.specs.Model.{item, truck_numbered, truck};
@@ -81,13 +81,6 @@ pub fn clear(words: &mut [u32])
 
 // ---- runs of words
 
-// A word as a count or a place.
-pub fn as_index(word: u32) -> usize
-    ensures { (result ≡ word) × (result < 4294967296) }
-{
-    word as usize
-}
-
 // So many words from a place on.
 fn words_from<'a>(words: &'a [u32], first: usize, count: usize) -> &'a [u32]
     requires { first + count ≤ length words.now }
@@ -102,7 +95,7 @@ fn counted<'a>(words: &'a [u32], at: usize) -> &'a [u32]
     requires { (at < length words.now) × (at + 1 + get_or words.now at 0 ≤ length words.now) }
     ensures { result.now ≡ take (get_or words.now at 0) (drop (at + 1) words.now) }
 {
-    words_from(words, at + 1, as_index(words[at]))
+    words_from(words, at + 1, words[at] as usize)
 }
 
 // The docks of a supplier among the words of a truck, by the supplier's place in its line, from 0.
@@ -110,24 +103,27 @@ fn docks_at<'a>(words: &'a [u32], row: usize) -> &'a [u32]
     requires { (length words.now ≡ 160) × (row < 8) × (get_or words.now (62 + row) 0 ≤ 8) }
     ensures { result.now ≡ take (get_or words.now (62 + row) 0) (drop (70 + 8 * row) words.now) }
 {
-    let count = as_index(words[DOCK_COUNTS + row]);
+    let count = words[DOCK_COUNTS + row] as usize;
     words_from(words, DOCKS + SUPPLIER_DOCKS * row, count)
 }
 
 // ---- lists
 
+// The place of an identifier in its line, from 0.
+fn place_of(list: &[u32], identifier: u32) -> Option<usize>
+    ensures { result ≡ position (λ listed. identifier == listed) list.now }
+{
+    list.iter().position(|listed| identifier == *listed)
+}
+
 // The place of an identifier in its line, from 1, which is its loading order; 0 where it is not listed.
 pub fn order_in(list: &[u32], identifier: u32) -> usize
     ensures { (result ≡ order_in list.now identifier) × (result ≤ length list.now) }
 {
-    let mut i = 0;
-    while i < list.len() {
-        if list[i] == identifier {
-            return i + 1;
-        }
-        i += 1;
+    match place_of(list, identifier) {
+        Some(place) => place + 1,
+        None => 0,
     }
-    0
 }
 
 // Whether an identifier is in its line. The loop is not left early: without a branch the compiler compares several at once.
@@ -135,10 +131,8 @@ pub fn is_listed(list: &[u32], identifier: u32) -> bool
     ensures { result ≡ listed identifier list.now }
 {
     let mut found = false;
-    let mut i = list.len();
-    while 0 < i {
-        i -= 1;
-        found = (identifier == list[i]) | found;
+    for listed in list {
+        found |= identifier == *listed;
     }
     found
 }
@@ -185,7 +179,7 @@ impl<'a> Table<'a> {
     pub fn stack_count(self) -> usize
         ensures { (result ≡ length (stacks_of self.entry)) × (result ≤ self.entry.named.limits.stacks) }
     {
-        as_index(self.named.words[STACK_COUNT])
+        self.named.words[STACK_COUNT] as usize
     }
 
     // A field of an item's line.
@@ -287,8 +281,8 @@ impl<'a> Table<'a> {
         ensures { (result.now ≡ (stack_at (stacks_of self.entry) s).load) × LoadOfItems (instance_of self.entry) result.now }
     {
         let words = self.named.stack(s);
-        let first = as_index(words[LOAD_FIRST]);
-        let count = as_index(words[LOAD_COUNT]);
+        let first = words[LOAD_FIRST] as usize;
+        let count = words[LOAD_COUNT] as usize;
         words_from(self.named.loads(), first, count)
     }
 }

@@ -8,5 +8,4 @@ words_from-requires c = omega (arith, load_room c.args.self.filled c.requires c.
 
 pub returns : goal.returns
 returns c =
-    let part = rw (c.as_index-first.ensures.0, c.as_index-count.ensures.0) at c.words_from.ensures.0 in
-    load_read c.args.self.filled c.requires c.stack-words.ensures.0 c.loads.ensures.0 part
+    load_read c.args.self.filled c.requires c.stack-words.ensures.0 c.loads.ensures.0 c.words_from.ensures.0
