@@ -5,7 +5,7 @@ use native.Mathlib.Omega.{arith}
 use Rattle.costs.proofs.plan_cost.Goals as goal
 
 pub overflow_mul-result : goal.overflow_mul-result
-overflow_mul-result c = omega (arith, mul-le-mul c.transport_coefficient-per_transport.ensures.1 c.requires.1)
+overflow_mul-result c = omega (arith, mul-le-mul c.transport_coefficient-per_transport.ensures.1 c.requires)
 
 pub overflow_mul-result-3 : goal.overflow_mul-result-3
 overflow_mul-result-3 c = omega (arith, mul-le-mul (mul-le-mul_left 1000 c.inventory_coefficient-per_inventory.ensures.1) c.inventory_sum-inventory.ensures.1)
@@ -15,7 +15,7 @@ overflow_add-result c =
     omega (
       arith,
       mul-le-mul (mul-le-mul_left 1000 c.inventory_coefficient-per_inventory.ensures.1) c.inventory_sum-inventory.ensures.1,
-      mul-le-mul c.transport_coefficient-per_transport.ensures.1 c.requires.1,
+      mul-le-mul c.transport_coefficient-per_transport.ensures.1 c.requires,
     )
 
 pub returns : goal.returns

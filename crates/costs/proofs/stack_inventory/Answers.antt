@@ -19,7 +19,7 @@ pub bounds-items-j : goal.bounds-items-j
 bounds-items-j c = omega (arith, c.loop-j.invariant.down.upto, c.loop-j-test.true)
 
 pub item_inventory-sum-requires : goal.item_inventory-sum-requires
-item_inventory-sum-requires c = (c.requires.0, c.load-items.ensures.1.entries (c.loop-j.j - 1) (omega (arith, c.loop-j.invariant.down.upto, c.loop-j-test.true)))
+item_inventory-sum-requires c = (c.load-items.ensures.1.entries (c.loop-j.j - 1) (omega (arith, c.loop-j.invariant.down.upto, c.loop-j-test.true)))
 
 pub overflow_add-sum : goal.overflow_add-sum
 overflow_add-sum c =
@@ -29,8 +29,8 @@ overflow_add-sum c =
 pub loop-j-preserved : goal.loop-j-preserved
 loop-j-preserved c =
     let a = c.args in
-    let i = instance_in a.limits a.t.now in
-    let s = stack_at (stacks_in a.limits a.t.now) a.s in
+    let i = instance_in a.table.named.limits a.table.named.words.now in
+    let s = stack_at (stacks_in a.table.named.limits a.table.named.words.now) a.s in
     let day = c.truck_field-arrival.ensures.0 ∙ ap (λ n. TDA (truck_numbered i n)) c.stack_truck.ensures.0 in
     summed_more 0 c.loop-j.invariant c.loop-j-test.true (item_cost_lem i s c.item_inventory-sum.ensures.0 refl day) c.item_inventory-sum.ensures.1
 

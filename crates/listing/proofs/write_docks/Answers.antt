@@ -20,24 +20,24 @@ abbrev line : List ℕ → List ℕ
 line ns = ended (printed_line "docks=" ns)
 
 pub loop-supplier-init : goal.loop-supplier-init
-loop-supplier-init c = listing_start _ _ _ c.requires.2
+loop-supplier-init c = listing_start _ _ _ c.requires.1
 
 pub docks-requires : goal.docks-requires
 docks-requires c =
     let truck : Truck =
-    let a = c.args in truck_numbered (instance_in a.limits a.t.now) a.n in
+    let a = c.args in truck_numbered (instance_in a.table.named.limits a.table.named.words.now) a.n in
     let meets : TruckMeets truck =
-    truck_in_lem c.requires.0 c.args.n c.requires.1 in
+    truck_in_lem c.args.table.filled c.args.n c.requires.0 in
     let within : c.loop-supplier.supplier < length truck.docks =
     omega (arith, meets.dock_lines, ap length c.suppliers-visited.ensures.0) in
-    (c.requires.0, c.requires.1, omega arith, omega (arith, within, meets.dock_lines))
+    (c.requires.0, omega arith, omega (arith, within, meets.dock_lines))
 
 pub write_line-at-requires : goal.write_line-at-requires
 write_line-at-requires c =
     let truck : Truck =
-    let a = c.args in truck_numbered (instance_in a.limits a.t.now) a.n in
+    let a = c.args in truck_numbered (instance_in a.table.named.limits a.table.named.words.now) a.n in
     let meets : TruckMeets truck =
-    truck_in_lem c.requires.0 c.args.n c.requires.1 in
+    truck_in_lem c.args.table.filled c.args.n c.requires.0 in
     let within : c.loop-supplier.supplier < length truck.docks =
     omega (arith, meets.dock_lines, ap length c.suppliers-visited.ensures.0) in
     let some : 1 ≤ length (get_or truck.docks c.loop-supplier.supplier []) =
@@ -49,11 +49,11 @@ write_line-at-requires c =
 pub overflow_add-at : goal.overflow_add-at
 overflow_add-at c =
     let truck : Truck =
-    let a = c.args in truck_numbered (instance_in a.limits a.t.now) a.n in
+    let a = c.args in truck_numbered (instance_in a.table.named.limits a.table.named.words.now) a.n in
     let After : Type 0 =
     (out : List ℕ) × (at : ℕ) × Listing line truck.docks c.args.out.now out at (c.loop-supplier.supplier + 1) in
     let meets : TruckMeets truck =
-    truck_in_lem c.requires.0 c.args.n c.requires.1 in
+    truck_in_lem c.args.table.filled c.args.n c.requires.0 in
     let within : c.loop-supplier.supplier < length truck.docks =
     omega (arith, meets.dock_lines, ap length c.suppliers-visited.ensures.0) in
     let docks_are : c.docks.result.now ≡ get_or truck.docks c.loop-supplier.supplier [] =
@@ -65,11 +65,11 @@ overflow_add-at c =
 pub loop-supplier-preserved : goal.loop-supplier-preserved
 loop-supplier-preserved c =
     let truck : Truck =
-    let a = c.args in truck_numbered (instance_in a.limits a.t.now) a.n in
+    let a = c.args in truck_numbered (instance_in a.table.named.limits a.table.named.words.now) a.n in
     let After : Type 0 =
     (out : List ℕ) × (at : ℕ) × Listing line truck.docks c.args.out.now out at (c.loop-supplier.supplier + 1) in
     let meets : TruckMeets truck =
-    truck_in_lem c.requires.0 c.args.n c.requires.1 in
+    truck_in_lem c.args.table.filled c.args.n c.requires.0 in
     let within : c.loop-supplier.supplier < length truck.docks =
     omega (arith, meets.dock_lines, ap length c.suppliers-visited.ensures.0) in
     let docks_are : c.docks.result.now ≡ get_or truck.docks c.loop-supplier.supplier [] =
@@ -81,4 +81,4 @@ loop-supplier-preserved c =
 pub returns : goal.returns
 returns c =
     let visited = c.suppliers-visited.ensures.0 in
-    listing_end c.loop-supplier.invariant (omega (arith, ap length visited, (truck_in_lem c.requires.0 c.args.n c.requires.1).dock_lines))
+    listing_end c.loop-supplier.invariant (omega (arith, ap length visited, (truck_in_lem c.args.table.filled c.args.n c.requires.0).dock_lines))

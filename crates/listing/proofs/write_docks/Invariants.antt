@@ -13,7 +13,7 @@ abbrev line : List ℕ → List ℕ
 line ns = ended (printed_line "docks=" ns)
 
 abbrev pub invariant-loop-supplier : goal.invariant-loop-supplier
-invariant-loop-supplier l = Listing line (truck_numbered (instance_in l.limits l.t) l.n).docks l.initial.out l.out l.at l.supplier
+invariant-loop-supplier l = Listing line (truck_numbered (instance_in l.table.named.limits l.table.named.words.now) l.n).docks l.initial.out l.out l.at l.supplier
 
 abbrev pub decreases-loop-supplier : goal.decreases-loop-supplier
 decreases-loop-supplier l = length l.visited - l.supplier

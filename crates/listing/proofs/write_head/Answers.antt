@@ -24,53 +24,53 @@ behind-transport i =
 pub write_one-at-requires : goal.write_one-at-requires
 write_one-at-requires c =
     let instance : Instance =
-    instance_in c.args.limits c.args.t.now in
+    instance_in c.args.table.named.limits c.args.table.named.words.now in
     line_room "transport=" (one c.transport_coefficient.ensures.0) _
-    (omega (arith, c.requires.1, first_most (line "transport=" instance.αT) (behind-transport instance) refl))
+    (omega (arith, c.requires, first_most (line "transport=" instance.αT) (behind-transport instance) refl))
 
 pub slice_bounds-write_one-count : goal.slice_bounds-write_one-count
 slice_bounds-write_one-count c =
     let instance : Instance =
-    instance_in c.args.limits c.args.t.now in
+    instance_in c.args.table.named.limits c.args.table.named.words.now in
     let Lines : Type 0 =
     Reached (head_bytes instance) c.args.out.now in
     let after-transport : Lines =
     let wrote = line_wrote "transport=" (one c.transport_coefficient.ensures.0) c.write_one-at.ensures in
-    (_, _, _, onward_first (behind-transport instance) c.requires.1 wrote refl) in
+    (_, _, _, onward_first (behind-transport instance) c.requires wrote refl) in
     omega (arith, after-transport.3.room, after-transport.3.long)
 
 pub slice_bounds-write_one-start : goal.slice_bounds-write_one-start
 slice_bounds-write_one-start c =
     let instance : Instance =
-    instance_in c.args.limits c.args.t.now in
+    instance_in c.args.table.named.limits c.args.table.named.words.now in
     let Lines : Type 0 =
     Reached (head_bytes instance) c.args.out.now in
     let after-transport : Lines =
     let wrote = line_wrote "transport=" (one c.transport_coefficient.ensures.0) c.write_one-at.ensures in
-    (_, _, _, onward_first (behind-transport instance) c.requires.1 wrote refl) in
+    (_, _, _, onward_first (behind-transport instance) c.requires wrote refl) in
     omega (arith, after-transport.3.room, after-transport.3.long)
 
 pub write_one-at-requires-2 : goal.write_one-at-requires-2
 write_one-at-requires-2 c =
     let instance : Instance =
-    instance_in c.args.limits c.args.t.now in
+    instance_in c.args.table.named.limits c.args.table.named.words.now in
     let Lines : Type 0 =
     Reached (head_bytes instance) c.args.out.now in
     let after-transport : Lines =
     let wrote = line_wrote "transport=" (one c.transport_coefficient.ensures.0) c.write_one-at.ensures in
-    (_, _, _, onward_first (behind-transport instance) c.requires.1 wrote refl) in
+    (_, _, _, onward_first (behind-transport instance) c.requires wrote refl) in
     let i = instance in
     line_room "inventory=" (one c.inventory_coefficient.ensures.0) _ (onward_lent after-transport.3 (line "inventory=" i.αI) _ refl)
 
 pub overflow_add-at : goal.overflow_add-at
 overflow_add-at c =
     let instance : Instance =
-    instance_in c.args.limits c.args.t.now in
+    instance_in c.args.table.named.limits c.args.table.named.words.now in
     let Lines : Type 0 =
     Reached (head_bytes instance) c.args.out.now in
     let after-transport : Lines =
     let wrote = line_wrote "transport=" (one c.transport_coefficient.ensures.0) c.write_one-at.ensures in
-    (_, _, _, onward_first (behind-transport instance) c.requires.1 wrote refl) in
+    (_, _, _, onward_first (behind-transport instance) c.requires wrote refl) in
     let after-inventory : Lines =
     (_, _, _, onward_run after-transport.3 (line_wrote "inventory=" (one c.inventory_coefficient.ensures.0) c.write_one-at-2.ensures) refl) in
     omega (arith, after-inventory.3.room)
@@ -78,12 +78,12 @@ overflow_add-at c =
 pub slice_bounds-write_one-count-2 : goal.slice_bounds-write_one-count-2
 slice_bounds-write_one-count-2 c =
     let instance : Instance =
-    instance_in c.args.limits c.args.t.now in
+    instance_in c.args.table.named.limits c.args.table.named.words.now in
     let Lines : Type 0 =
     Reached (head_bytes instance) c.args.out.now in
     let after-transport : Lines =
     let wrote = line_wrote "transport=" (one c.transport_coefficient.ensures.0) c.write_one-at.ensures in
-    (_, _, _, onward_first (behind-transport instance) c.requires.1 wrote refl) in
+    (_, _, _, onward_first (behind-transport instance) c.requires wrote refl) in
     let after-inventory : Lines =
     (_, _, _, onward_run after-transport.3 (line_wrote "inventory=" (one c.inventory_coefficient.ensures.0) c.write_one-at-2.ensures) refl) in
     omega (arith, after-inventory.3.room, after-inventory.3.long)
@@ -91,12 +91,12 @@ slice_bounds-write_one-count-2 c =
 pub slice_bounds-write_one-start-2 : goal.slice_bounds-write_one-start-2
 slice_bounds-write_one-start-2 c =
     let instance : Instance =
-    instance_in c.args.limits c.args.t.now in
+    instance_in c.args.table.named.limits c.args.table.named.words.now in
     let Lines : Type 0 =
     Reached (head_bytes instance) c.args.out.now in
     let after-transport : Lines =
     let wrote = line_wrote "transport=" (one c.transport_coefficient.ensures.0) c.write_one-at.ensures in
-    (_, _, _, onward_first (behind-transport instance) c.requires.1 wrote refl) in
+    (_, _, _, onward_first (behind-transport instance) c.requires wrote refl) in
     let after-inventory : Lines =
     (_, _, _, onward_run after-transport.3 (line_wrote "inventory=" (one c.inventory_coefficient.ensures.0) c.write_one-at-2.ensures) refl) in
     omega (arith, after-inventory.3.room, after-inventory.3.long)
@@ -104,12 +104,12 @@ slice_bounds-write_one-start-2 c =
 pub write_one-at-requires-3 : goal.write_one-at-requires-3
 write_one-at-requires-3 c =
     let instance : Instance =
-    instance_in c.args.limits c.args.t.now in
+    instance_in c.args.table.named.limits c.args.table.named.words.now in
     let Lines : Type 0 =
     Reached (head_bytes instance) c.args.out.now in
     let after-transport : Lines =
     let wrote = line_wrote "transport=" (one c.transport_coefficient.ensures.0) c.write_one-at.ensures in
-    (_, _, _, onward_first (behind-transport instance) c.requires.1 wrote refl) in
+    (_, _, _, onward_first (behind-transport instance) c.requires wrote refl) in
     let after-inventory : Lines =
     (_, _, _, onward_run after-transport.3 (line_wrote "inventory=" (one c.inventory_coefficient.ensures.0) c.write_one-at-2.ensures) refl) in
     let i = instance in
@@ -118,12 +118,12 @@ write_one-at-requires-3 c =
 pub overflow_add-at-2 : goal.overflow_add-at-2
 overflow_add-at-2 c =
     let instance : Instance =
-    instance_in c.args.limits c.args.t.now in
+    instance_in c.args.table.named.limits c.args.table.named.words.now in
     let Lines : Type 0 =
     Reached (head_bytes instance) c.args.out.now in
     let after-transport : Lines =
     let wrote = line_wrote "transport=" (one c.transport_coefficient.ensures.0) c.write_one-at.ensures in
-    (_, _, _, onward_first (behind-transport instance) c.requires.1 wrote refl) in
+    (_, _, _, onward_first (behind-transport instance) c.requires wrote refl) in
     let after-inventory : Lines =
     (_, _, _, onward_run after-transport.3 (line_wrote "inventory=" (one c.inventory_coefficient.ensures.0) c.write_one-at-2.ensures) refl) in
     let after-extra : Lines =
@@ -133,12 +133,12 @@ overflow_add-at-2 c =
 pub slice_bounds-write_one-count-3 : goal.slice_bounds-write_one-count-3
 slice_bounds-write_one-count-3 c =
     let instance : Instance =
-    instance_in c.args.limits c.args.t.now in
+    instance_in c.args.table.named.limits c.args.table.named.words.now in
     let Lines : Type 0 =
     Reached (head_bytes instance) c.args.out.now in
     let after-transport : Lines =
     let wrote = line_wrote "transport=" (one c.transport_coefficient.ensures.0) c.write_one-at.ensures in
-    (_, _, _, onward_first (behind-transport instance) c.requires.1 wrote refl) in
+    (_, _, _, onward_first (behind-transport instance) c.requires wrote refl) in
     let after-inventory : Lines =
     (_, _, _, onward_run after-transport.3 (line_wrote "inventory=" (one c.inventory_coefficient.ensures.0) c.write_one-at-2.ensures) refl) in
     let after-extra : Lines =
@@ -148,12 +148,12 @@ slice_bounds-write_one-count-3 c =
 pub slice_bounds-write_one-start-3 : goal.slice_bounds-write_one-start-3
 slice_bounds-write_one-start-3 c =
     let instance : Instance =
-    instance_in c.args.limits c.args.t.now in
+    instance_in c.args.table.named.limits c.args.table.named.words.now in
     let Lines : Type 0 =
     Reached (head_bytes instance) c.args.out.now in
     let after-transport : Lines =
     let wrote = line_wrote "transport=" (one c.transport_coefficient.ensures.0) c.write_one-at.ensures in
-    (_, _, _, onward_first (behind-transport instance) c.requires.1 wrote refl) in
+    (_, _, _, onward_first (behind-transport instance) c.requires wrote refl) in
     let after-inventory : Lines =
     (_, _, _, onward_run after-transport.3 (line_wrote "inventory=" (one c.inventory_coefficient.ensures.0) c.write_one-at-2.ensures) refl) in
     let after-extra : Lines =
@@ -163,12 +163,12 @@ slice_bounds-write_one-start-3 c =
 pub write_one-at-requires-4 : goal.write_one-at-requires-4
 write_one-at-requires-4 c =
     let instance : Instance =
-    instance_in c.args.limits c.args.t.now in
+    instance_in c.args.table.named.limits c.args.table.named.words.now in
     let Lines : Type 0 =
     Reached (head_bytes instance) c.args.out.now in
     let after-transport : Lines =
     let wrote = line_wrote "transport=" (one c.transport_coefficient.ensures.0) c.write_one-at.ensures in
-    (_, _, _, onward_first (behind-transport instance) c.requires.1 wrote refl) in
+    (_, _, _, onward_first (behind-transport instance) c.requires wrote refl) in
     let after-inventory : Lines =
     (_, _, _, onward_run after-transport.3 (line_wrote "inventory=" (one c.inventory_coefficient.ensures.0) c.write_one-at-2.ensures) refl) in
     let after-extra : Lines =
@@ -179,12 +179,12 @@ write_one-at-requires-4 c =
 pub overflow_add-at-3 : goal.overflow_add-at-3
 overflow_add-at-3 c =
     let instance : Instance =
-    instance_in c.args.limits c.args.t.now in
+    instance_in c.args.table.named.limits c.args.table.named.words.now in
     let Lines : Type 0 =
     Reached (head_bytes instance) c.args.out.now in
     let after-transport : Lines =
     let wrote = line_wrote "transport=" (one c.transport_coefficient.ensures.0) c.write_one-at.ensures in
-    (_, _, _, onward_first (behind-transport instance) c.requires.1 wrote refl) in
+    (_, _, _, onward_first (behind-transport instance) c.requires wrote refl) in
     let after-inventory : Lines =
     (_, _, _, onward_run after-transport.3 (line_wrote "inventory=" (one c.inventory_coefficient.ensures.0) c.write_one-at-2.ensures) refl) in
     let after-extra : Lines =
@@ -194,17 +194,17 @@ overflow_add-at-3 c =
     omega (arith, after_items.3.room, c.well_formed)
 
 pub truck_count-requires : goal.truck_count-requires
-truck_count-requires c = c.requires.0
+truck_count-requires c = c.args.table.filled
 
 pub slice_bounds-write_one-count-4 : goal.slice_bounds-write_one-count-4
 slice_bounds-write_one-count-4 c =
     let instance : Instance =
-    instance_in c.args.limits c.args.t.now in
+    instance_in c.args.table.named.limits c.args.table.named.words.now in
     let Lines : Type 0 =
     Reached (head_bytes instance) c.args.out.now in
     let after-transport : Lines =
     let wrote = line_wrote "transport=" (one c.transport_coefficient.ensures.0) c.write_one-at.ensures in
-    (_, _, _, onward_first (behind-transport instance) c.requires.1 wrote refl) in
+    (_, _, _, onward_first (behind-transport instance) c.requires wrote refl) in
     let after-inventory : Lines =
     (_, _, _, onward_run after-transport.3 (line_wrote "inventory=" (one c.inventory_coefficient.ensures.0) c.write_one-at-2.ensures) refl) in
     let after-extra : Lines =
@@ -216,12 +216,12 @@ slice_bounds-write_one-count-4 c =
 pub slice_bounds-write_one-start-4 : goal.slice_bounds-write_one-start-4
 slice_bounds-write_one-start-4 c =
     let instance : Instance =
-    instance_in c.args.limits c.args.t.now in
+    instance_in c.args.table.named.limits c.args.table.named.words.now in
     let Lines : Type 0 =
     Reached (head_bytes instance) c.args.out.now in
     let after-transport : Lines =
     let wrote = line_wrote "transport=" (one c.transport_coefficient.ensures.0) c.write_one-at.ensures in
-    (_, _, _, onward_first (behind-transport instance) c.requires.1 wrote refl) in
+    (_, _, _, onward_first (behind-transport instance) c.requires wrote refl) in
     let after-inventory : Lines =
     (_, _, _, onward_run after-transport.3 (line_wrote "inventory=" (one c.inventory_coefficient.ensures.0) c.write_one-at-2.ensures) refl) in
     let after-extra : Lines =
@@ -233,12 +233,12 @@ slice_bounds-write_one-start-4 c =
 pub write_one-requires : goal.write_one-requires
 write_one-requires c =
     let instance : Instance =
-    instance_in c.args.limits c.args.t.now in
+    instance_in c.args.table.named.limits c.args.table.named.words.now in
     let Lines : Type 0 =
     Reached (head_bytes instance) c.args.out.now in
     let after-transport : Lines =
     let wrote = line_wrote "transport=" (one c.transport_coefficient.ensures.0) c.write_one-at.ensures in
-    (_, _, _, onward_first (behind-transport instance) c.requires.1 wrote refl) in
+    (_, _, _, onward_first (behind-transport instance) c.requires wrote refl) in
     let after-inventory : Lines =
     (_, _, _, onward_run after-transport.3 (line_wrote "inventory=" (one c.inventory_coefficient.ensures.0) c.write_one-at-2.ensures) refl) in
     let after-extra : Lines =
@@ -250,12 +250,12 @@ write_one-requires c =
 pub overflow_add-result : goal.overflow_add-result
 overflow_add-result c =
     let instance : Instance =
-    instance_in c.args.limits c.args.t.now in
+    instance_in c.args.table.named.limits c.args.table.named.words.now in
     let Lines : Type 0 =
     Reached (head_bytes instance) c.args.out.now in
     let after-transport : Lines =
     let wrote = line_wrote "transport=" (one c.transport_coefficient.ensures.0) c.write_one-at.ensures in
-    (_, _, _, onward_first (behind-transport instance) c.requires.1 wrote refl) in
+    (_, _, _, onward_first (behind-transport instance) c.requires wrote refl) in
     let after-inventory : Lines =
     (_, _, _, onward_run after-transport.3 (line_wrote "inventory=" (one c.inventory_coefficient.ensures.0) c.write_one-at-2.ensures) refl) in
     let after-extra : Lines =
@@ -269,12 +269,12 @@ overflow_add-result c =
 pub returns : goal.returns
 returns c =
     let instance : Instance =
-    instance_in c.args.limits c.args.t.now in
+    instance_in c.args.table.named.limits c.args.table.named.words.now in
     let Lines : Type 0 =
     Reached (head_bytes instance) c.args.out.now in
     let after-transport : Lines =
     let wrote = line_wrote "transport=" (one c.transport_coefficient.ensures.0) c.write_one-at.ensures in
-    (_, _, _, onward_first (behind-transport instance) c.requires.1 wrote refl) in
+    (_, _, _, onward_first (behind-transport instance) c.requires wrote refl) in
     let after-inventory : Lines =
     (_, _, _, onward_run after-transport.3 (line_wrote "inventory=" (one c.inventory_coefficient.ensures.0) c.write_one-at-2.ensures) refl) in
     let after-extra : Lines =

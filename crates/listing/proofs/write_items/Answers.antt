@@ -16,12 +16,12 @@ abbrev line : List ℕ → List ℕ
 line ns = ended (printed_line "item=" ns)
 
 pub loop-n-init : goal.loop-n-init
-loop-n-init c = listing_start _ _ _ c.requires.1
+loop-n-init c = listing_start _ _ _ c.requires
 
 pub write_line-at-requires : goal.write_line-at-requires
 write_line-at-requires c =
     let items : List Item =
-    let a = c.args in (instance_in a.limits a.t.now).items in
+    let a = c.args in (instance_in a.table.named.limits a.table.named.words.now).items in
     let within : c.loop-n.n < length items =
     omega arith in
     let fields-are : c.item_fields.result.now ≡ get_or items c.loop-n.n [] =
@@ -31,7 +31,7 @@ write_line-at-requires c =
 pub overflow_add-at : goal.overflow_add-at
 overflow_add-at c =
     let items : List Item =
-    let a = c.args in (instance_in a.limits a.t.now).items in
+    let a = c.args in (instance_in a.table.named.limits a.table.named.words.now).items in
     let After : Type 0 =
     (out : List ℕ) × (at : ℕ) × Listing line items c.args.out.now out at (c.loop-n.n + 1) in
     let within : c.loop-n.n < length items =
@@ -45,7 +45,7 @@ overflow_add-at c =
 pub loop-n-preserved : goal.loop-n-preserved
 loop-n-preserved c =
     let items : List Item =
-    let a = c.args in (instance_in a.limits a.t.now).items in
+    let a = c.args in (instance_in a.table.named.limits a.table.named.words.now).items in
     let After : Type 0 =
     (out : List ℕ) × (at : ℕ) × Listing line items c.args.out.now out at (c.loop-n.n + 1) in
     let within : c.loop-n.n < length items =

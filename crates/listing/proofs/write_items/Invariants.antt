@@ -11,7 +11,7 @@ abbrev line : List ℕ → List ℕ
 line ns = ended (printed_line "item=" ns)
 
 abbrev pub invariant-loop-n : goal.invariant-loop-n
-invariant-loop-n l = Listing line (instance_in l.limits l.t).items l.initial.out l.out l.at l.n
+invariant-loop-n l = Listing line (instance_in l.table.named.limits l.table.named.words.now).items l.initial.out l.out l.at l.n
 
 abbrev pub decreases-loop-n : goal.decreases-loop-n
 decreases-loop-n l = l.count - l.n

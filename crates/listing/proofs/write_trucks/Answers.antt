@@ -12,22 +12,22 @@ use Rattle.listing.proofs.Lines.{numbered}
 use Rattle.listing.proofs.write_trucks.Goals as goal
 
 pub loop-n-init : goal.loop-n-init
-loop-n-init c = listing_start _ _ _ c.requires.1
+loop-n-init c = listing_start _ _ _ c.requires
 
 pub write_truck-at-requires : goal.write_truck-at-requires
 write_truck-at-requires c =
     let trucks : List Truck =
-    let a = c.args in (instance_in a.limits a.t.now).trucks in
+    let a = c.args in (instance_in a.table.named.limits a.table.named.words.now).trucks in
     let within : c.loop-n.n < length trucks =
     omega arith in
     let this-truck : get_or trucks (c.loop-n.n + 1 - 1) no_truck ≡ get_or trucks c.loop-n.n no_truck =
     numbered trucks no_truck c.loop-n.n in
-    (c.requires.0, omega (arith, within), rw this-truck (listing_lent c.loop-n.invariant no_truck within))
+    (omega (arith, within), rw this-truck (listing_lent c.loop-n.invariant no_truck within))
 
 pub overflow_add-at : goal.overflow_add-at
 overflow_add-at c =
     let trucks : List Truck =
-    let a = c.args in (instance_in a.limits a.t.now).trucks in
+    let a = c.args in (instance_in a.table.named.limits a.table.named.words.now).trucks in
     let After : Type 0 =
     (out : List ℕ) × (at : ℕ) × Listing printed_truck trucks c.args.out.now out at (c.loop-n.n + 1) in
     let within : c.loop-n.n < length trucks =
@@ -41,7 +41,7 @@ overflow_add-at c =
 pub loop-n-preserved : goal.loop-n-preserved
 loop-n-preserved c =
     let trucks : List Truck =
-    let a = c.args in (instance_in a.limits a.t.now).trucks in
+    let a = c.args in (instance_in a.table.named.limits a.table.named.words.now).trucks in
     let After : Type 0 =
     (out : List ℕ) × (at : ℕ) × Listing printed_truck trucks c.args.out.now out at (c.loop-n.n + 1) in
     let within : c.loop-n.n < length trucks =

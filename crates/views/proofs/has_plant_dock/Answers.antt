@@ -4,10 +4,10 @@ use Rattle.views.proofs.Loads.{passed_start, passed_found, passed_more, passed_e
 use Rattle.views.proofs.has_plant_dock.Goals as goal
 
 pub loop-j-init : goal.loop-j-init
-loop-j-init c = passed_start c.requires.2
+loop-j-init c = passed_start c.requires.1
 
 pub item_field-requires : goal.item_field-requires
-item_field-requires c = (c.requires.0, c.requires.1.entries c.loop-j.j (omega arith), omega arith)
+item_field-requires c = (c.requires.0.entries c.loop-j.j (omega arith), omega arith)
 
 pub returns-then-item_field-dock : goal.returns-then-item_field-dock
 returns-then-item_field-dock c = passed_found c.loop-j.invariant (omega arith) c.item_field.ensures.0 c.if-item_field-dock.true

@@ -6,7 +6,7 @@ use Rattle.views.proofs.Loads.{Passed}
 use Rattle.views.proofs.has_plant_dock.Given as goal
 
 abbrev pub invariant-loop-j : goal.invariant-loop-j
-invariant-loop-j l = Passed (instance_in l.limits l.t) l.load l.dock l.from l.j
+invariant-loop-j l = Passed (instance_in l.table.named.limits l.table.named.words.now) l.load l.dock l.from l.j
 
 abbrev pub decreases-loop-j : goal.decreases-loop-j
 decreases-loop-j l = length l.load - l.j

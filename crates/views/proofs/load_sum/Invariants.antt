@@ -8,7 +8,7 @@ use Rattle.views.proofs.Loads.{Summed}
 use Rattle.views.proofs.load_sum.Given as goal
 
 abbrev pub invariant-loop-j : goal.invariant-loop-j
-invariant-loop-j l = Summed (λ k. get_or (item (instance_in l.limits l.t) k) l.field 0) (item_most l.field) l.load l.from l.sum l.j
+invariant-loop-j l = Summed (λ k. get_or (item (instance_in l.table.named.limits l.table.named.words.now) k) l.field 0) (item_most l.field) l.load l.from l.sum l.j
 
 abbrev pub decreases-loop-j : goal.decreases-loop-j
 decreases-loop-j l = length l.load - l.j

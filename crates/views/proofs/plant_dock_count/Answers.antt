@@ -9,7 +9,7 @@ pub loop-j-init : goal.loop-j-init
 loop-j-init c = counted_start refl
 
 pub item_field-dock-requires : goal.item_field-dock-requires
-item_field-dock-requires c = (c.requires.0, c.requires.1.entries (c.loop-j.j - 1) (omega (arith, c.loop-j.invariant.down.upto)), omega arith)
+item_field-dock-requires c = (c.requires.entries (c.loop-j.j - 1) (omega (arith, c.loop-j.invariant.down.upto)), omega arith)
 
 pub loop-j-preserved-then-not-has_plant_dock : goal.loop-j-preserved-then-not-has_plant_dock
 loop-j-preserved-then-not-has_plant_dock c = counted_new c.loop-j.invariant (omega arith) c.item_field-dock.ensures.0 c.has_plant_dock.ensures c.if-not-has_plant_dock.true-raw
@@ -18,4 +18,4 @@ pub loop-j-preserved : goal.loop-j-preserved
 loop-j-preserved c = counted_again c.loop-j.invariant (omega arith) c.item_field-dock.ensures.0 c.has_plant_dock.ensures c.if-not-has_plant_dock.false-raw
 
 pub returns : goal.returns
-returns c = counted_end c.loop-j.invariant (omega arith) c.requires.1.few
+returns c = counted_end c.loop-j.invariant (omega arith) c.requires.few

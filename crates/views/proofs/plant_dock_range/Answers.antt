@@ -9,7 +9,7 @@ pub loop-j-init : goal.loop-j-init
 loop-j-init c = range_start _ _ refl
 
 pub item_field-requires : goal.item_field-requires
-item_field-requires c = (c.requires.0, c.requires.2.entries (c.loop-j.j - 1) (omega (arith, c.loop-j.invariant.upto)), omega arith)
+item_field-requires c = (c.requires.1.entries (c.loop-j.j - 1) (omega (arith, c.loop-j.invariant.upto)), omega arith)
 
 pub loop-j-preserved : goal.loop-j-preserved
 loop-j-preserved c =

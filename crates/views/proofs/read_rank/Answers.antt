@@ -5,10 +5,10 @@ use Rattle.views.specs.Views.{rank_of}
 use Rattle.views.proofs.read_rank.Goals as goal
 
 pub item_field-supplier-requires : goal.item_field-supplier-requires
-item_field-supplier-requires c = (c.requires.0, c.requires.2.entries 0 c.requires.2.some, omega arith)
+item_field-supplier-requires c = (c.requires.1.entries 0 c.requires.1.some, omega arith)
 
 pub item_field-dock-requires : goal.item_field-dock-requires
-item_field-dock-requires c = (c.requires.0, c.requires.2.entries 0 c.requires.2.some, omega arith)
+item_field-dock-requires c = (c.requires.1.entries 0 c.requires.1.some, omega arith)
 
 pub returns : goal.returns
 unfolding rank_of
