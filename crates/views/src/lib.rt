@@ -145,10 +145,8 @@ pub fn load_sum(table: Table<'_>, load: &[u32], from: usize, field: usize) -> u3
         × (result ≤ item_most field * 64) }
 {
     let mut sum: u32 = 0;
-    let mut j = from;
-    while j < load.len() {
-        sum += table.item_field(load[j], field);
-        j += 1;
+    for n in &load[from..] {
+        sum += table.item_field(*n, field);
     }
     sum
 }
@@ -223,15 +221,10 @@ const MOST_PLANT_DOCKS: u32 = 8;
 fn including(range: OrderRange, order: u32) -> OrderRange
     ensures { result ≡ range_with order range }
 {
-    let mut lowest = range.lowest;
-    if order < lowest {
-        lowest = order;
+    OrderRange {
+        lowest: range.lowest.min(order),
+        highest: range.highest.max(order),
     }
-    let mut highest = range.highest;
-    if highest < order {
-        highest = order;
-    }
-    OrderRange { lowest, highest }
 }
 
 // The range of the plant dock orders of a load's items.
@@ -244,9 +237,7 @@ fn plant_dock_range(table: Table<'_>, truck: u32, load: &[u32]) -> OrderRange
         lowest: MOST_PLANT_DOCKS,
         highest: 0,
     };
-    let mut j = load.len();
-    while 0 < j {
-        j -= 1;
+    for j in (0..load.len()).rev() {
         let order = order_in(docks, table.item_field(load[j], fields::IG));
         range = including(range, order as u32);
     }
@@ -278,12 +269,10 @@ fn has_plant_dock(table: Table<'_>, load: &[u32], from: usize, dock: u32) -> boo
     requires { LoadOfItems (instance_of table) load.now × (from ≤ length load.now) }
     ensures { result ≡ listed dock (plant_docks_from (instance_of table.entry) load.now from) }
 {
-    let mut j = from;
-    while j < load.len() {
-        if table.item_field(load[j], fields::IG) == dock {
+    for n in &load[from..] {
+        if table.item_field(*n, fields::IG) == dock {
             return true;
         }
-        j += 1;
     }
     false
 }
@@ -294,12 +283,9 @@ pub fn plant_dock_count(table: Table<'_>, load: &[u32]) -> u32
     ensures { (result ≡ plant_dock_count (instance_of table.entry) (load_only load.now)) × (result ≤ 64) }
 {
     let mut count: u32 = 0;
-    let mut j = load.len();
-    while 0 < j {
-        let above = j;
-        j -= 1;
+    for j in (0..load.len()).rev() {
         let dock = table.item_field(load[j], fields::IG);
-        if !has_plant_dock(table, load, above, dock) {
+        if !has_plant_dock(table, load, j + 1, dock) {
             count += 1;
         }
     }
