@@ -9,16 +9,13 @@ ghost use Rattle.table.specs.Filled.{stack_at, ItemNumber, TruckNumber};
 ghost use Rattle.costs.specs.Costs.{used_truck};
 ghost use Rattle.table.specs.Held.{instance_of, stacks_of};
 
-use table::{fields, Table};
+use table::{Table, fields};
 
 // The days that an item arrives before its latest day. Rule 13 keeps it from arriving later.
 fn days_early(latest: u32, arrival: u32) -> u32
     ensures { (result ≡ latest - arrival) × (result ≤ latest) }
 {
-    if latest < arrival {
-        return 0;
-    }
-    latest - arrival
+    latest.saturating_sub(arrival)
 }
 
 // The inventory cost of an item that arrives on this day, for each unit of its coefficient.
@@ -40,9 +37,7 @@ fn stack_inventory(table: Table<'_>, s: usize) -> u64
     let arrival = table.truck_field(table.stack_truck(s), fields::TDA);
     let items = table.load(s);
     let mut sum: u64 = 0;
-    let mut j = items.len();
-    while 0 < j {
-        j -= 1;
+    for j in (0..items.len()).rev() {
         sum = item_inventory(table, items[j], arrival) + sum;
     }
     sum
@@ -54,9 +49,7 @@ fn inventory_sum(table: Table<'_>) -> u64
         × (result ≤ 2614886400000) }
 {
     let mut sum: u64 = 0;
-    let mut s = table.stack_count();
-    while 0 < s {
-        s -= 1;
+    for s in (0..table.stack_count()).rev() {
         sum = stack_inventory(table, s) + sum;
     }
     sum
