@@ -30,7 +30,7 @@ fn item_inventory(table: Table<'_>, n: u32, arrival: u32) -> u64
 
 // The inventory cost of a stack.
 fn stack_inventory(table: Table<'_>, s: usize) -> u64
-    requires { (s < length (stacks_of table)) }
+    requires { s < length (stacks_of table) }
     ensures { (result ≡ inventory_cost (instance_of table.entry) (stack_at (stacks_of table.entry) s))
         × (result ≤ 39900000 * length (stack_at (stacks_of table.entry) s).load) }
 {
@@ -69,7 +69,7 @@ pub fn truck_cost(table: Table<'_>, truck: u32, copy: u32) -> u64
 
 // The cost of a plan in thousandths; `transport` is what its used trucks cost together.
 pub fn plan_cost(table: Table<'_>, transport: u64) -> u64
-    requires { (transport ≤ 4194304000000000) }
+    requires { transport ≤ 4194304000000000 }
     ensures { result ≡ (instance_of table.entry).αT * transport
         + 1000 * (instance_of table.entry).αI * sum (inventory_cost (instance_of table.entry)) (stacks_of table.entry) }
 {

@@ -12,7 +12,7 @@ ghost use Rattle.listing.specs.Parts.{lines_of, head_bytes, stack_bytes};
 ghost use Rattle.table.specs.Held.{instance_of, stacks_of};
 
 use printing::write_line;
-use table::{Table};
+use table::Table;
 
 // A line with one number.
 fn write_one(key: &[u8], number: u32, out: &mut [u8]) -> usize
@@ -27,15 +27,11 @@ fn write_one(key: &[u8], number: u32, out: &mut [u8]) -> usize
 
 // The first five lines, of one number each.
 fn write_head(table: Table<'_>, out: &mut [u8]) -> usize
-    requires { (length (head_bytes (instance_of table)) ≤ length out.old) }
+    requires { length (head_bytes (instance_of table)) ≤ length out.old }
     ensures { Wrote (head_bytes (instance_of table.entry)) out.old out.new result }
 {
     let mut at = write_one(b"transport=", table.transport_coefficient(), out);
-    at += write_one(
-        b"inventory=",
-        table.inventory_coefficient(),
-        &mut out[at..],
-    );
+    at += write_one(b"inventory=", table.inventory_coefficient(), &mut out[at..]);
     at += write_one(b"extra=", table.extra_coefficient(), &mut out[at..]);
     at += write_one(b"items=", table.item_count(), &mut out[at..]);
     at + write_one(b"trucks=", table.truck_count(), &mut out[at..])
@@ -43,15 +39,13 @@ fn write_head(table: Table<'_>, out: &mut [u8]) -> usize
 
 // A line for each item.
 fn write_items(table: Table<'_>, out: &mut [u8]) -> usize
-    requires { (length (lines_of "item=" (instance_of table).items) ≤ length out.old) }
+    requires { length (lines_of "item=" (instance_of table).items) ≤ length out.old }
     ensures { Wrote (lines_of "item=" (instance_of table.entry).items) out.old out.new result }
 {
     let count = table.item_count();
     let mut at = 0;
-    let mut n = 0;
-    while n < count {
-        n += 1;
-        at += write_line(b"item=", table.item_fields(n), &mut out[at..]);
+    for n in 0..count {
+        at += write_line(b"item=", table.item_fields(n + 1), &mut out[at..]);
     }
     at
 }
@@ -64,10 +58,8 @@ fn write_docks(table: Table<'_>, n: u32, out: &mut [u8]) -> usize
 {
     let visited = table.suppliers(n);
     let mut at = 0;
-    let mut supplier = 0;
-    while supplier < visited.len() {
-        supplier += 1;
-        at += write_line(b"docks=", table.docks(n, supplier), &mut out[at..]);
+    for passed in 0..visited.len() {
+        at += write_line(b"docks=", table.docks(n, passed + 1), &mut out[at..]);
     }
     at
 }
@@ -86,22 +78,20 @@ fn write_truck(table: Table<'_>, n: u32, out: &mut [u8]) -> usize
 
 // The lines of each truck.
 fn write_trucks(table: Table<'_>, out: &mut [u8]) -> usize
-    requires { (length (flat_map printed_truck (instance_of table).trucks) ≤ length out.old) }
+    requires { length (flat_map printed_truck (instance_of table).trucks) ≤ length out.old }
     ensures { Wrote (flat_map printed_truck (instance_of table.entry).trucks) out.old out.new result }
 {
     let count = table.truck_count();
     let mut at = 0;
-    let mut n = 0;
-    while n < count {
-        n += 1;
-        at += write_truck(table, n, &mut out[at..]);
+    for n in 0..count {
+        at += write_truck(table, n + 1, &mut out[at..]);
     }
     at
 }
 
 // The instance file.
 pub fn write_instance(table: Table<'_>, out: &mut [u8]) -> usize
-    requires { (length (printed_instance (instance_of table)) ≤ length out.old) }
+    requires { length (printed_instance (instance_of table)) ≤ length out.old }
     ensures { Wrote (printed_instance (instance_of table.entry)) out.old out.new result }
 {
     let mut at = write_head(table, out);
@@ -122,22 +112,20 @@ fn write_stack(table: Table<'_>, s: usize, out: &mut [u8]) -> usize
 
 // The two lines of each stack.
 fn write_stacks(table: Table<'_>, out: &mut [u8]) -> usize
-    requires { (length (flat_map stack_bytes (stacks_of table)) ≤ length out.old) }
+    requires { length (flat_map stack_bytes (stacks_of table)) ≤ length out.old }
     ensures { Wrote (flat_map stack_bytes (stacks_of table.entry)) out.old out.new result }
 {
     let count = table.stack_count();
     let mut at = 0;
-    let mut s = 0;
-    while s < count {
+    for s in 0..count {
         at += write_stack(table, s, &mut out[at..]);
-        s += 1;
     }
     at
 }
 
 // The plan file.
 pub fn write_plan(table: Table<'_>, out: &mut [u8]) -> usize
-    requires { (length (printed_plan (stacks_of table)) ≤ length out.old) }
+    requires { length (printed_plan (stacks_of table)) ≤ length out.old }
     ensures { Wrote (printed_plan (stacks_of table.entry)) out.old out.new result }
 {
     let at = write_one(b"stacks=", table.stack_count() as u32, out);

@@ -80,7 +80,7 @@ pub fn stack_truck_field(table: Table<'_>, s: usize, field: usize) -> u32
 
 // Where a stack stands.
 pub fn read_position(table: Table<'_>, s: usize) -> Position
-    requires { (s < length (stacks_of table)) }
+    requires { s < length (stacks_of table) }
     ensures { (result ≡ position_of (stack_at (stacks_of table.entry) s)) × PositionInRange result }
 {
     Position {

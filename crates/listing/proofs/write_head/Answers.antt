@@ -193,9 +193,6 @@ overflow_add-at-3 c =
     (_, _, _, onward_run after-extra.3 (line_wrote "items=" (one c.item_count.ensures.0) c.write_one-at-4.ensures) refl) in
     omega (arith, after_items.3.room, c.well_formed)
 
-pub truck_count-requires : goal.truck_count-requires
-truck_count-requires c = c.args.table.filled
-
 pub slice_bounds-write_one-count-4 : goal.slice_bounds-write_one-count-4
 slice_bounds-write_one-count-4 c =
     let instance : Instance =
