@@ -1,6 +1,5 @@
 -- `costs::stack_inventory`: what is summed is the cost of the items from the current one on.
 use mathlib.Core.Path.{refl, ap, ◌∙◌}
-use Prim.Native.Nat.{◌-◌}
 use native.Mathlib.Omega.{arith}
 use Rattle.meaning.specs.Model.{truck_numbered, TDA}
 use Rattle.meaning.specs.Table.{instance_in, stacks_in}
@@ -11,15 +10,6 @@ use Rattle.costs.proofs.stack_inventory.Goals as goal
 
 pub loop-j-init : goal.loop-j-init
 loop-j-init c = summed_start refl
-
-pub offset_bounds-items-j : goal.offset_bounds-items-j
-offset_bounds-items-j c = omega (arith, c.loop-j.invariant.down.upto, c.load-items.ensures.1.few)
-
-pub bounds-items-j : goal.bounds-items-j
-bounds-items-j c = omega (arith, c.loop-j.invariant.down.upto, c.loop-j-test.true)
-
-pub item_inventory-sum-requires : goal.item_inventory-sum-requires
-item_inventory-sum-requires c = (c.load-items.ensures.1.entries (c.loop-j.j - 1) (omega (arith, c.loop-j.invariant.down.upto, c.loop-j-test.true)))
 
 pub overflow_add-sum : goal.overflow_add-sum
 overflow_add-sum c =

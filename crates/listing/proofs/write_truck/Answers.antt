@@ -22,26 +22,6 @@ write_line-at-requires c =
     line_asks "truck=" c.truck_fields.ensures.0 _ (omega (arith, meets.fields.least))
     (omega (arith, c.requires.1, first_most (ended (printed_line "truck=" truck.fields)) _ (truck_parts truck)))
 
-pub slice_bounds-write_line-count : goal.slice_bounds-write_line-count
-slice_bounds-write_line-count c =
-    let truck : Truck =
-    truck_numbered (instance_in c.args.table.named.limits c.args.table.named.words.now) c.args.n in
-    let Lines : Type 0 =
-    Reached (printed_truck truck) c.args.out.now in
-    let after-fields : Lines =
-    (_, _, _, onward_first _ c.requires.1 (line_wrote "truck=" c.truck_fields.ensures.0 c.write_line-at.ensures) (truck_parts truck)) in
-    omega (arith, after-fields.3.room, after-fields.3.long)
-
-pub slice_bounds-write_line-start : goal.slice_bounds-write_line-start
-slice_bounds-write_line-start c =
-    let truck : Truck =
-    truck_numbered (instance_in c.args.table.named.limits c.args.table.named.words.now) c.args.n in
-    let Lines : Type 0 =
-    Reached (printed_truck truck) c.args.out.now in
-    let after-fields : Lines =
-    (_, _, _, onward_first _ c.requires.1 (line_wrote "truck=" c.truck_fields.ensures.0 c.write_line-at.ensures) (truck_parts truck)) in
-    omega (arith, after-fields.3.room, after-fields.3.long)
-
 pub write_line-at-requires-2 : goal.write_line-at-requires-2
 write_line-at-requires-2 c =
     let truck : Truck =
@@ -54,42 +34,6 @@ write_line-at-requires-2 c =
     (_, _, _, onward_first _ c.requires.1 (line_wrote "truck=" c.truck_fields.ensures.0 c.write_line-at.ensures) (truck_parts truck)) in
     line_asks "products=" c.products.ensures.0 _ meets.products.least
     (onward_lent after-fields.3 (ended (printed_line "products=" truck.products)) _ refl)
-
-pub overflow_add-at : goal.overflow_add-at
-overflow_add-at c =
-    let truck : Truck =
-    truck_numbered (instance_in c.args.table.named.limits c.args.table.named.words.now) c.args.n in
-    let Lines : Type 0 =
-    Reached (printed_truck truck) c.args.out.now in
-    let after-fields : Lines =
-    (_, _, _, onward_first _ c.requires.1 (line_wrote "truck=" c.truck_fields.ensures.0 c.write_line-at.ensures) (truck_parts truck)) in
-    let after-products : Lines =
-    (_, _, _, onward_run after-fields.3 (line_wrote "products=" c.products.ensures.0 c.write_line-at-2.ensures) refl) in
-    omega (arith, after-products.3.room)
-
-pub slice_bounds-write_line-count-2 : goal.slice_bounds-write_line-count-2
-slice_bounds-write_line-count-2 c =
-    let truck : Truck =
-    truck_numbered (instance_in c.args.table.named.limits c.args.table.named.words.now) c.args.n in
-    let Lines : Type 0 =
-    Reached (printed_truck truck) c.args.out.now in
-    let after-fields : Lines =
-    (_, _, _, onward_first _ c.requires.1 (line_wrote "truck=" c.truck_fields.ensures.0 c.write_line-at.ensures) (truck_parts truck)) in
-    let after-products : Lines =
-    (_, _, _, onward_run after-fields.3 (line_wrote "products=" c.products.ensures.0 c.write_line-at-2.ensures) refl) in
-    omega (arith, after-products.3.room, after-products.3.long)
-
-pub slice_bounds-write_line-start-2 : goal.slice_bounds-write_line-start-2
-slice_bounds-write_line-start-2 c =
-    let truck : Truck =
-    truck_numbered (instance_in c.args.table.named.limits c.args.table.named.words.now) c.args.n in
-    let Lines : Type 0 =
-    Reached (printed_truck truck) c.args.out.now in
-    let after-fields : Lines =
-    (_, _, _, onward_first _ c.requires.1 (line_wrote "truck=" c.truck_fields.ensures.0 c.write_line-at.ensures) (truck_parts truck)) in
-    let after-products : Lines =
-    (_, _, _, onward_run after-fields.3 (line_wrote "products=" c.products.ensures.0 c.write_line-at-2.ensures) refl) in
-    omega (arith, after-products.3.room, after-products.3.long)
 
 pub write_line-at-requires-3 : goal.write_line-at-requires-3
 write_line-at-requires-3 c =
@@ -106,48 +50,6 @@ write_line-at-requires-3 c =
     line_asks "suppliers=" c.suppliers.ensures.0 _ meets.suppliers.least
     (onward_lent after-products.3 (ended (printed_line "suppliers=" truck.suppliers)) _ refl)
 
-pub overflow_add-at-2 : goal.overflow_add-at-2
-overflow_add-at-2 c =
-    let truck : Truck =
-    truck_numbered (instance_in c.args.table.named.limits c.args.table.named.words.now) c.args.n in
-    let Lines : Type 0 =
-    Reached (printed_truck truck) c.args.out.now in
-    let after-fields : Lines =
-    (_, _, _, onward_first _ c.requires.1 (line_wrote "truck=" c.truck_fields.ensures.0 c.write_line-at.ensures) (truck_parts truck)) in
-    let after-products : Lines =
-    (_, _, _, onward_run after-fields.3 (line_wrote "products=" c.products.ensures.0 c.write_line-at-2.ensures) refl) in
-    let after-suppliers : Lines =
-    (_, _, _, onward_run after-products.3 (line_wrote "suppliers=" c.suppliers.ensures.0 c.write_line-at-3.ensures) refl) in
-    omega (arith, after-suppliers.3.room, c.well_formed)
-
-pub slice_bounds-write_docks-count : goal.slice_bounds-write_docks-count
-slice_bounds-write_docks-count c =
-    let truck : Truck =
-    truck_numbered (instance_in c.args.table.named.limits c.args.table.named.words.now) c.args.n in
-    let Lines : Type 0 =
-    Reached (printed_truck truck) c.args.out.now in
-    let after-fields : Lines =
-    (_, _, _, onward_first _ c.requires.1 (line_wrote "truck=" c.truck_fields.ensures.0 c.write_line-at.ensures) (truck_parts truck)) in
-    let after-products : Lines =
-    (_, _, _, onward_run after-fields.3 (line_wrote "products=" c.products.ensures.0 c.write_line-at-2.ensures) refl) in
-    let after-suppliers : Lines =
-    (_, _, _, onward_run after-products.3 (line_wrote "suppliers=" c.suppliers.ensures.0 c.write_line-at-3.ensures) refl) in
-    omega (arith, after-suppliers.3.room, after-suppliers.3.long)
-
-pub slice_bounds-write_docks-start : goal.slice_bounds-write_docks-start
-slice_bounds-write_docks-start c =
-    let truck : Truck =
-    truck_numbered (instance_in c.args.table.named.limits c.args.table.named.words.now) c.args.n in
-    let Lines : Type 0 =
-    Reached (printed_truck truck) c.args.out.now in
-    let after-fields : Lines =
-    (_, _, _, onward_first _ c.requires.1 (line_wrote "truck=" c.truck_fields.ensures.0 c.write_line-at.ensures) (truck_parts truck)) in
-    let after-products : Lines =
-    (_, _, _, onward_run after-fields.3 (line_wrote "products=" c.products.ensures.0 c.write_line-at-2.ensures) refl) in
-    let after-suppliers : Lines =
-    (_, _, _, onward_run after-products.3 (line_wrote "suppliers=" c.suppliers.ensures.0 c.write_line-at-3.ensures) refl) in
-    omega (arith, after-suppliers.3.room, after-suppliers.3.long)
-
 pub write_docks-at-requires : goal.write_docks-at-requires
 write_docks-at-requires c =
     let truck : Truck =
@@ -161,57 +63,6 @@ write_docks-at-requires c =
     let after-suppliers : Lines =
     (_, _, _, onward_run after-products.3 (line_wrote "suppliers=" c.suppliers.ensures.0 c.write_line-at-3.ensures) refl) in
     (c.requires.0, onward_lent after-suppliers.3 (lines_of "docks=" truck.docks) _ refl)
-
-pub overflow_add-at-3 : goal.overflow_add-at-3
-overflow_add-at-3 c =
-    let truck : Truck =
-    truck_numbered (instance_in c.args.table.named.limits c.args.table.named.words.now) c.args.n in
-    let Lines : Type 0 =
-    Reached (printed_truck truck) c.args.out.now in
-    let after-fields : Lines =
-    (_, _, _, onward_first _ c.requires.1 (line_wrote "truck=" c.truck_fields.ensures.0 c.write_line-at.ensures) (truck_parts truck)) in
-    let after-products : Lines =
-    (_, _, _, onward_run after-fields.3 (line_wrote "products=" c.products.ensures.0 c.write_line-at-2.ensures) refl) in
-    let after-suppliers : Lines =
-    (_, _, _, onward_run after-products.3 (line_wrote "suppliers=" c.suppliers.ensures.0 c.write_line-at-3.ensures) refl) in
-    let after-docks : Lines =
-    (_, _, _, onward_run after-suppliers.3 c.write_docks-at.ensures refl) in
-    omega (arith, after-docks.3.room, c.well_formed)
-
-pub plant_docks-requires : goal.plant_docks-requires
-plant_docks-requires c = (c.requires.0)
-
-pub slice_bounds-write_line-count-3 : goal.slice_bounds-write_line-count-3
-slice_bounds-write_line-count-3 c =
-    let truck : Truck =
-    truck_numbered (instance_in c.args.table.named.limits c.args.table.named.words.now) c.args.n in
-    let Lines : Type 0 =
-    Reached (printed_truck truck) c.args.out.now in
-    let after-fields : Lines =
-    (_, _, _, onward_first _ c.requires.1 (line_wrote "truck=" c.truck_fields.ensures.0 c.write_line-at.ensures) (truck_parts truck)) in
-    let after-products : Lines =
-    (_, _, _, onward_run after-fields.3 (line_wrote "products=" c.products.ensures.0 c.write_line-at-2.ensures) refl) in
-    let after-suppliers : Lines =
-    (_, _, _, onward_run after-products.3 (line_wrote "suppliers=" c.suppliers.ensures.0 c.write_line-at-3.ensures) refl) in
-    let after-docks : Lines =
-    (_, _, _, onward_run after-suppliers.3 c.write_docks-at.ensures refl) in
-    omega (arith, after-docks.3.room, after-docks.3.long)
-
-pub slice_bounds-write_line-start-3 : goal.slice_bounds-write_line-start-3
-slice_bounds-write_line-start-3 c =
-    let truck : Truck =
-    truck_numbered (instance_in c.args.table.named.limits c.args.table.named.words.now) c.args.n in
-    let Lines : Type 0 =
-    Reached (printed_truck truck) c.args.out.now in
-    let after-fields : Lines =
-    (_, _, _, onward_first _ c.requires.1 (line_wrote "truck=" c.truck_fields.ensures.0 c.write_line-at.ensures) (truck_parts truck)) in
-    let after-products : Lines =
-    (_, _, _, onward_run after-fields.3 (line_wrote "products=" c.products.ensures.0 c.write_line-at-2.ensures) refl) in
-    let after-suppliers : Lines =
-    (_, _, _, onward_run after-products.3 (line_wrote "suppliers=" c.suppliers.ensures.0 c.write_line-at-3.ensures) refl) in
-    let after-docks : Lines =
-    (_, _, _, onward_run after-suppliers.3 c.write_docks-at.ensures refl) in
-    omega (arith, after-docks.3.room, after-docks.3.long)
 
 pub write_line-requires : goal.write_line-requires
 write_line-requires c =
@@ -230,24 +81,6 @@ write_line-requires c =
     let after-docks : Lines =
     (_, _, _, onward_run after-suppliers.3 c.write_docks-at.ensures refl) in
     line_asks "plantdocks=" c.plant_docks.ensures.0 _ meets.plant_docks.least (onward_lent_last after-docks.3)
-
-pub overflow_add-result : goal.overflow_add-result
-overflow_add-result c =
-    let truck : Truck =
-    truck_numbered (instance_in c.args.table.named.limits c.args.table.named.words.now) c.args.n in
-    let Lines : Type 0 =
-    Reached (printed_truck truck) c.args.out.now in
-    let after-fields : Lines =
-    (_, _, _, onward_first _ c.requires.1 (line_wrote "truck=" c.truck_fields.ensures.0 c.write_line-at.ensures) (truck_parts truck)) in
-    let after-products : Lines =
-    (_, _, _, onward_run after-fields.3 (line_wrote "products=" c.products.ensures.0 c.write_line-at-2.ensures) refl) in
-    let after-suppliers : Lines =
-    (_, _, _, onward_run after-products.3 (line_wrote "suppliers=" c.suppliers.ensures.0 c.write_line-at-3.ensures) refl) in
-    let after-docks : Lines =
-    (_, _, _, onward_run after-suppliers.3 c.write_docks-at.ensures refl) in
-    let after-plant-docks : Lines =
-    (_, _, _, onward_last after-docks.3 (line_wrote "plantdocks=" c.plant_docks.ensures.0 c.write_line.ensures)) in
-    omega (arith, after-plant-docks.3.room, c.well_formed)
 
 pub returns : goal.returns
 returns c =
