@@ -12,8 +12,8 @@ ghost use Rattle.axles.specs.Weights.{places_of, is_on, on_at, weight_at, lever_
 ghost use Rattle.axles.specs.Weights.{axle_data, BoundedAxles, moment_by, middle_holds, rear_holds, middle_under, rear_under, exceeds, LowestPlaces};
 
 use manifest::{Block, row, row_word};
-use meaning::Limits;
-use search::{Found, lower_of, place_if};
+use meaning::{Limits, Place};
+use search::{lower_of, place_if};
 use table::fields::{CJFC, CJFH, CJFM, CM, EJCR, EJEH, EJHR, EM, EMMM, EMMR, LOAD_LIMIT};
 use table::{suppliers, truck_field};
 
@@ -33,13 +33,10 @@ fn departure_counts(rows: &[u32], on: Block, departure: u32) -> bool
     requires { 16 * on.end ≤ length rows.now }
     ensures { result ≡ any (is_on rows.now departure) (places_of on) }
 {
-    let end = on.end;
-    let mut k = on.start;
-    while k < end {
+    for k in on.start..on.end {
         if is_on(rows, departure, k) {
             return true;
         }
-        k += 1;
     }
     false
 }
@@ -51,11 +48,8 @@ fn total_weight(rows: &[u32], on: Block) -> u64
     requires { BoundedRows rows.now on }
     ensures { result ≡ weight_of rows.now (places_of on) }
 {
-    let start = on.start;
     let mut weight: u64 = 0;
-    let mut k = on.end;
-    while start < k {
-        k -= 1;
+    for k in (on.start..on.end).rev() {
         weight = (row_word(rows, k, row::WEIGHT) as u64) + weight;
     }
     weight
@@ -104,12 +98,9 @@ fn sums_on(rows: &[u32], on: Block, departure: u32, twice: u32) -> Sums
     ensures { (result.weight ≡ weight_of rows.now (on_at rows.now departure on))
         × (result.levers ≡ levers_of rows.now twice (on_at rows.now departure on)) }
 {
-    let start = on.start;
     let mut weight: u64 = 0;
     let mut levers: i64 = 0;
-    let mut k = on.end;
-    while start < k {
-        k -= 1;
+    for k in (on.start..on.end).rev() {
         let term = term_of(rows, departure, twice, k);
         weight = term.weight + weight;
         levers = term.levers + levers;
@@ -224,9 +215,9 @@ fn exceeded_axles(rows: &[u32], on: Block, departure: u32, axles: AxleData) -> E
 // The lowest places where the rules on the weight of a used truck are broken.
 #[derive(Clone, Copy)]
 pub struct WeightPlaces {
-    pub overload: Found, // 26
-    pub middle: Found, // 27
-    pub rear: Found, // 28
+    pub overload: Option<Place>, // 26
+    pub middle: Option<Place>, // 27
+    pub rear: Option<Place>, // 28
 }
 
 // W1 and W2 of one used truck. Every departure is asked, not the last alone.
@@ -240,14 +231,13 @@ pub fn truck_weights(t: &[u32], limits: Limits, rows: &[u32], on: Block) -> Weig
     let within = total_weight(rows, on) <= (truck_field(t, limits, truck, LOAD_LIMIT) as u64);
     let axles = read_axle_data(t, limits, truck);
     let list = suppliers(t, limits, truck);
-    let mut middle = Found::Nothing;
-    let mut rear = Found::Nothing;
-    let mut departure = list.len() as u32;
-    while 0 < departure {
+    let mut middle = None;
+    let mut rear = None;
+    for before in (0..list.len() as u32).rev() {
+        let departure = before + 1;
         let exceeded = exceeded_axles(rows, on, departure, axles);
         middle = lower_of(place_if(exceeded.middle, truck, copy, departure), middle);
         rear = lower_of(place_if(exceeded.rear, truck, copy, departure), rear);
-        departure -= 1;
     }
     WeightPlaces {
         overload: place_if(!within, truck, copy, 0),

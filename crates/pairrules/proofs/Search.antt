@@ -1,14 +1,14 @@
 -- The search for the lowest pair of stacks that breaks a rule: the stacks by ascending number, and with each its partners on its used truck.
 use mathlib.Core.Path.{◌≡◌, sym, ap, ap₂, subst, ◌∙◌}
 use mathlib.Core.Logic.{inl, inr, ⊎_elim}
-use mathlib.Core.Bool.{Bool, true, false, not}
+use mathlib.Core.Bool.{Bool, true, false}
 use mathlib.Core.List.{List}
 use Prim.Native.Nat.{ℕ, ◌+◌, ◌≤◌, ◌<◌}
 use native.Mathlib.Nat.{eq-or-lt_of_le}
 use native.Mathlib.Decide.{dec_le}
 use native.Mathlib.Omega.{arith}
-use borrow.Author.Tests.{not-true}
 use lib.ListN.{length, get_or}
+use Rattle.std.specs.Prelude.{Some, None}
 use Rattle.meaning.specs.declared.Limits.{Limits}
 use Rattle.meaning.specs.declared.Place.{Place}
 use Rattle.meaning.specs.Lists.{In}
@@ -19,7 +19,6 @@ use Rattle.meaning.specs.Rules.{pair_places}
 use Rattle.meaning.specs.Claims.{Before}
 use Rattle.meaning.specs.Table.{instance_in, stacks_in}
 use Rattle.meaning.proofs.Tests.{true≢false}
-use Rattle.search.specs.declared.Found.TheVariants.{At, Nothing}
 use Rattle.search.specs.Lowest.{lowest_in}
 use Rattle.search.proofs.Lowest.{found_first, found_none}
 use Rattle.manifest.specs.declared.Block.{Block}
@@ -96,7 +95,7 @@ module _ {rule : PairRule} {m : Limits} {t rows order : List ℕ} {k : ℕ} (sta
       go l up is (no q) = come s l (omega arith) is
 
   -- where every stack has come, no pair breaks the rule
-  pub pair_none : length p ≤ k → Nothing ≡ lowest_in (pair_places (pair_test rule) i p)
+  pub pair_none : length p ≤ k → None ≡ lowest_in (pair_places (pair_test rule) i p)
   pair_none last =
       found_none _ (λ q m.
       let w = listed_pair (pair_test rule) i p q m in
@@ -163,15 +162,15 @@ module _ {rule : PairRule} {m : Limits} {t rows order : List ℕ} {k : ℕ} (sta
         }
 
     module _ (up : b < on.end) {kept : Bool} (asks : kept ≡ pair_test rule i s (manifest_at p b)) where
-      pub partners_more : not kept ≡ false → PartnersPassed rule m t rows order k a on (b + 1)
+      pub partners_more : kept ≡ true → PartnersPassed rule m t rows order k a on (b + 1)
       partners_more e =
           record { inside = l.inside; is = l.is; around = l.around; passed = upto_kept l.passed up (same_told asks) e }
 
       -- the first pair that breaks the rule is the lowest
-      module _ (e : not kept ≡ true) where
+      module _ (e : kept ≡ false) where
         found : Broken (pair_test rule i) p s (manifest_at p b)
         found =
-            let breaks : pair_test rule i s (manifest_at p b) ≡ false = sym asks ∙ not-true kept e in
+            let breaks : pair_test rule i s (manifest_at p b) ≡ false = sym asks ∙ e in
             record {
               first = stack_in_lem stacks.held a first_within;
               second = stack_in_lem stacks.held b (within up).1;
@@ -201,7 +200,7 @@ module _ {rule : PairRule} {m : Limits} {t rows order : List ℕ} {k : ℕ} (sta
         none_before u v w (inr (same, inr (same', less))) = omega arith
 
         pub pair_found : {first second : ℕ} → first ≡ row_word rows a 1 → second ≡ row_word rows b 1
-            → At (place first second 0) ≡ lowest_in (pair_places (pair_test rule) i p)
+            → Some (place first second 0) ≡ lowest_in (pair_places (pair_test rule) i p)
         pair_found ef es =
             rw (ef, es, word_is stacks.held a first_within 1 (omega arith), word_is stacks.held b (within up).1 1 (omega arith))
             (found_first _ _ (pair_listed (pair_test rule) i p s (manifest_at p b) found) (λ q m before.

@@ -16,7 +16,6 @@ use manifest::{
 };
 use meaning::{Limits, Place};
 use rules::PairRule;
-use search::Found;
 use table::fields::IS;
 use table::{as_index, stack_count};
 use views::{Footprint, Rank, bottom_field};
@@ -46,26 +45,6 @@ pub fn disjoint(a: Footprint, b: Footprint) -> bool
     (((a.xe <= b.x) | (b.xe <= a.x)) | (a.ye <= b.y)) | (b.ye <= a.y)
 }
 
-// The lower of two numbers.
-fn lower(a: u32, b: u32) -> u32
-    ensures { result ≡ min a b }
-{
-    if a < b {
-        return a;
-    }
-    b
-}
-
-// The higher of two numbers.
-fn higher(a: u32, b: u32) -> u32
-    ensures { result ≡ max a b }
-{
-    if b < a {
-        return a;
-    }
-    b
-}
-
 // An edge of so many millimetres is long enough between any two stacks.
 const LONG_EDGE: u32 = 100;
 
@@ -74,7 +53,7 @@ fn least_edge(a: Footprint, b: Footprint) -> u32
     requires { (a.y ≤ a.ye) × (b.y ≤ b.ye) }
     ensures { result ≡ least_footprint_edge a b }
 {
-    lower(LONG_EDGE, lower(a.ye - a.y, b.ye - b.y))
+    LONG_EDGE.min((a.ye - a.y).min(b.ye - b.y))
 }
 
 // 24 unbraced, P3: whether the second stack ends where the first begins, in contact with it: the common part of their y ranges is an edge that
@@ -86,7 +65,7 @@ pub fn in_contact(a: Footprint, b: Footprint) -> bool
     if b.xe != a.x {
         return false;
     }
-    higher(a.y, b.y) + least_edge(a, b) <= lower(a.ye, b.ye)
+    a.y.max(b.y) + least_edge(a, b) <= a.ye.min(b.ye)
 }
 
 // 25 order, P4: the three cases in which the stack of the first rank must have x no greater than the other.
@@ -136,12 +115,10 @@ fn is_single_behind(t: &[u32], limits: Limits, rows: &[u32], a: usize, end: usiz
     if row_word(rows, a, row::PLANT_DOCKS) != 2 {
         return true;
     }
-    let mut b = a + 1;
-    while b < end {
+    for b in a + 1..end {
         if !is_single_pair(t, limits, rows, a, b) {
             return false;
         }
-        b += 1;
     }
     true
 }
@@ -152,13 +129,10 @@ pub fn keeps_single_pair(t: &[u32], limits: Limits, rows: &[u32], on: Block) -> 
     ensures { (result ≡ true) ↔ (pair_places single_pair (instance_in limits t.now)
         (block (stacks_in limits t.now) on.start on.end) ≡ []) }
 {
-    let end = on.end;
-    let mut a = on.start;
-    while a < end {
-        if !is_single_behind(t, limits, rows, a, end) {
+    for a in on.start..on.end {
+        if !is_single_behind(t, limits, rows, a, on.end) {
             return false;
         }
-        a += 1;
     }
     true
 }
@@ -173,10 +147,8 @@ pub fn order_by(rows: &[u32], on: Block, word: usize, keys: &mut [u64], order: &
     ensures lengths { (length keys.new ≡ length keys.old) × (length order.new ≡ length order.old) }
 {
     let count = on.end - on.start;
-    let mut k = 0;
-    while k < count {
+    for k in 0..count {
         keys[k] = row_word(rows, on.start + k, word) as u64;
-        k += 1;
     }
     sort(keys, order, count);
 }
@@ -216,30 +188,26 @@ pub fn first_pair(
     limits: Limits,
     rows: &[u32],
     by_number: &[u32],
-) -> Found
+) -> Option<Place>
     requires { HoldsRows limits t.now rows.now × SortedRows rows.now (whole_plan (length (stacks_in limits t.now))) 1 by_number.now }
     ensures { result ≡ lowest_in (pair_places (pair_test rule) (instance_in limits t.now) (stacks_in limits t.now)) }
 {
     let count = stack_count(t, limits);
-    let mut found = Found::Nothing;
+    let mut found = None;
     let mut on = Block { start: 0, end: 0 };
-    let mut k = 0;
-    'search: while k < count {
+    'search: for k in 0..count {
         let a = as_index(by_number[k]);
         on = block_at(rows, a, count, on);
-        let mut b = first_partner(rule, a, on);
-        while b < on.end {
+        for b in first_partner(rule, a, on)..on.end {
             if !pair_kept(rule, t, limits, rows, a, b) {
-                found = Found::At(Place {
+                found = Some(Place {
                     first: row_word(rows, a, row::NUMBER),
                     second: row_word(rows, b, row::NUMBER),
                     third: 0,
                 });
                 break 'search;
             }
-            b += 1;
         }
-        k += 1;
     }
     found
 }

@@ -1,7 +1,7 @@
 -- The stacks of a used truck along the trailer: what the three tests of one stack have passed, and what they tell.
 use mathlib.Core.Path.{◌≡◌, refl, sym, ap, ap₂, subst, ◌∙◌}
 use mathlib.Core.Logic.{◌↔◌, inr, ⊎_elim}
-use mathlib.Core.Bool.{Bool, true, false, not}
+use mathlib.Core.Bool.{Bool, true, false}
 use mathlib.Core.List.{List}
 use Prim.Native.Nat.{ℕ, ◌+◌, ◌-◌, ◌*◌, ◌≤◌, ◌<◌}
 use native.Mathlib.Nat.{eq-or-lt_of_le}
@@ -75,10 +75,10 @@ module _ {rows : List ℕ} {on : Block} {along : List ℕ} {k : ℕ} {ground : F
         clear_told : (kept ≡ true) ↔ (disjoint_at rows (place_at on along k) (place_at on along j) ≡ true)
         clear_told = same_told (asks ∙ ap₂ disjoint_footprints h.is eo)
 
-        pub clear_broken : not kept ≡ true → (false ≡ true) ↔ Clear rows on along k
+        pub clear_broken : kept ≡ false → (false ≡ true) ↔ Clear rows on along k
         clear_broken e = upto_broken h.passed up clear_told e
 
-        pub clear_more : not kept ≡ false → ClearUpto rows on along k ground (j + 1)
+        pub clear_more : kept ≡ true → ClearUpto rows on along k ground (j + 1)
         clear_more e = record { held = h.held; is = h.is; passed = upto_kept h.passed up clear_told e }
 
 -- ---- 24: the stacks before the k-th
@@ -179,8 +179,8 @@ module _ {rows : List ℕ} {on : Block} {along : List ℕ} {k at : ℕ} where
         in_order_told : (kept ≡ true) ↔ (in_order_at rows (place_at on along k) (place_at on along j) ≡ true)
         in_order_told = same_told (asks ∙ ap₂ (in_order_at rows) h.is eo)
 
-        pub in_order_broken : not kept ≡ true → (false ≡ true) ↔ Each (λ l. in_order_at rows (place_at on along k) (place_at on along l) ≡ true) 0 k
+        pub in_order_broken : kept ≡ false → (false ≡ true) ↔ Each (λ l. in_order_at rows (place_at on along k) (place_at on along l) ≡ true) 0 k
         in_order_broken e = upto_broken h.passed up in_order_told e
 
-        pub in_order_more : not kept ≡ false → InOrderUpto rows on along k at (j + 1)
+        pub in_order_more : kept ≡ true → InOrderUpto rows on along k at (j + 1)
         in_order_more e = record { held = h.held; inside = h.inside; is = h.is; passed = upto_kept h.passed up in_order_told e }

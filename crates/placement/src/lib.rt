@@ -9,8 +9,9 @@ ghost use Rattle.pairrules.specs.PairRules.{disjoint_at, in_order_at, Each, Each
 ghost use Rattle.placement.specs.Placed.{TruckRows, RowsByX, braced_at, PlacedRows};
 
 use manifest::{Block, footprint_at, row, row_word};
+use meaning::Place;
 use pairrules::{disjoint, in_contact, in_loading_order, order_by};
-use search::{Found, lower_of, place_if};
+use search::{lower_of, place_if};
 use table::as_index;
 use views::Footprint;
 
@@ -18,7 +19,7 @@ use views::Footprint;
 pub struct Placement {
     pub apart: bool, // 23: no two overlap
     pub in_order: bool, // 25: where no two overlap, each two keep the loading order
-    pub unbraced: Found, // 24: the lowest stack that is not braced
+    pub unbraced: Option<Place>, // 24: the lowest stack that is not braced
 }
 
 // The place in the rows of the k-th stack along the trailer.
@@ -45,8 +46,7 @@ fn is_clear(rows: &[u32], on: Block, along: &[u32], k: usize) -> bool
 {
     let ground = footprint_along(rows, on, along, k);
     let count = on.end - on.start;
-    let mut j = k + 1;
-    while j < count {
+    for j in k + 1..count {
         let other = footprint_along(rows, on, along, j);
         if ground.xe <= other.x {
             return true;
@@ -54,7 +54,6 @@ fn is_clear(rows: &[u32], on: Block, along: &[u32], k: usize) -> bool
         if !disjoint(ground, other) {
             return false;
         }
-        j += 1;
     }
     true
 }
@@ -69,9 +68,7 @@ fn is_braced(rows: &[u32], on: Block, along: &[u32], k: usize) -> bool
     if ground.x == 0 {
         return true;
     }
-    let mut j = k;
-    while 0 < j {
-        j -= 1;
+    for j in (0..k).rev() {
         if in_contact(ground, footprint_along(rows, on, along, j)) {
             return true;
         }
@@ -87,12 +84,10 @@ fn is_in_order(rows: &[u32], on: Block, along: &[u32], k: usize) -> bool
         ≡ true) 0 k }
 {
     let place = place_along(on, along, k);
-    let mut j = 0;
-    while j < k {
+    for j in 0..k {
         if !in_loading_order(rows, place, place_along(on, along, j)) {
             return false;
         }
-        j += 1;
     }
     true
 }
@@ -102,13 +97,10 @@ fn are_in_order(rows: &[u32], on: Block, along: &[u32]) -> bool
     requires { RowsByX rows.now on along.now }
     ensures { (result ≡ true) ↔ EachTwo (λ j k. in_order_at rows.now j k ≡ true) on.start on.end }
 {
-    let count = on.end - on.start;
-    let mut k = 0;
-    while k < count {
+    for k in 0..on.end - on.start {
         if !is_in_order(rows, on, along, k) {
             return false;
         }
-        k += 1;
     }
     true
 }
@@ -119,10 +111,8 @@ fn placement_along(rows: &[u32], on: Block, along: &[u32]) -> Placement
     ensures { PlacedRows rows.now on result }
 {
     let mut apart = true;
-    let mut unbraced = Found::Nothing;
-    let mut k = on.end - on.start;
-    while 0 < k {
-        k -= 1;
+    let mut unbraced = None;
+    for k in (0..on.end - on.start).rev() {
         let number = row_word(rows, place_along(on, along, k), row::NUMBER);
         let here = place_if(!is_braced(rows, on, along, k), number, 0, 0);
         unbraced = lower_of(here, unbraced);

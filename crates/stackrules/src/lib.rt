@@ -13,13 +13,13 @@ ghost use Rattle.search.specs.Lowest.{lowest_in};
 ghost use Rattle.rules.specs.declared.Rule.TheVariants.{OfStacks};
 ghost use Rattle.rules.specs.LoadingRules.{item_test, rule_count, rule_at};
 ghost use Rattle.manifest.specs.Manifest.{manifest_at, HoldsRows};
-ghost use Rattle.stackrules.specs.StackRules.{every_item_test, own_places, OwnRulesKept, with_item, no_breach, sooner_of, FirstOf, FirstOnStacks};
+ghost use Rattle.stackrules.specs.StackRules.{every_item_test, own_places, OwnRulesKept, with_item, FirstOf, FirstOnStacks};
 ghost use Rattle.stackrules.specs.StackRules.{Countable, Counted, Tally};
 
 use manifest::{footprint_at, row, row_word, stack_at};
 use meaning::{Limits, Place};
 use rules::{ItemRule, OwnRule, RULES, Rule, StackRule, rule_at};
-use search::{Found, is_nothing, lower_of, lower_place, place_if};
+use search::{lower_of, place_if};
 use table::fields::{
     IDE, IDL, IK, IL, IM, IO, IP, IR, IS, ISM, IU, IW, NUMBER, ORIENTATION, TDA, TEM, TF, TH, TL,
     TOP_LIMIT, TP, TW,
@@ -48,11 +48,8 @@ fn count_load(items: &[u32], times: &mut [u32])
     requires { Countable items.now times.old }
     ensures { Counted items.now times.old times.new }
 {
-    let mut j = items.len();
-    while 0 < j {
-        j -= 1;
-        let at = count_index(items[j]);
-        times[at] = times[at] + 1;
+    for n in items {
+        times[count_index(*n)] += 1;
     }
 }
 
@@ -62,25 +59,21 @@ fn count_items(t: &[u32], limits: Limits, times: &mut [u32])
     ensures { Tally (length (instance_in limits t.now).items) (stacks_in limits t.now) times.new }
 {
     clear(times);
-    let mut s = stack_count(t, limits);
-    while 0 < s {
-        s -= 1;
+    for s in (0..stack_count(t, limits)).rev() {
         count_load(load(t, limits, s), times);
     }
 }
 
 // 9 not once: the lowest item that is not loaded once, and how often it is.
-pub fn lowest_not_once(t: &[u32], limits: Limits, times: &mut [u32]) -> Found
+pub fn lowest_not_once(t: &[u32], limits: Limits, times: &mut [u32]) -> Option<Place>
     requires { Filled limits t.now × (length (instance_in limits t.now).items ≤ length times.old) }
     ensures { result ≡ lowest_in (not_once (instance_in limits t.now) (stacks_in limits t.now)) }
 {
     count_items(t, limits, times);
-    let mut found = Found::Nothing;
-    let mut n = item_count(t, limits);
-    while 0 < n {
-        let count = times[count_index(n)];
-        found = lower_of(place_if(count != 1, n, count, 0), found);
-        n -= 1;
+    let mut found = None;
+    for at in (0..item_count(t, limits)).rev() {
+        let count = times[at as usize];
+        found = lower_of(place_if(count != 1, at + 1, count, 0), found);
     }
     found
 }
@@ -201,7 +194,7 @@ fn item_keeps_rules(t: &[u32], limits: Limits, s: usize, n: u32) -> bool
 // ---- the rules on the stack itself: 16 and 19 to 22. Each function answers where the stack at place k of the rows breaks its rule
 
 // 16 docks, S2 and S3: one plant dock; where the truck's flag is set also two, if they are consecutive.
-fn docks_place(t: &[u32], limits: Limits, rows: &[u32], k: usize) -> Found
+fn docks_place(t: &[u32], limits: Limits, rows: &[u32], k: usize) -> Option<Place>
     requires { HoldsRows limits t.now rows.now × (k < length (stacks_in limits t.now)) }
     ensures { result ≡ lowest_in (own_places OwnRule.Docks (instance_in limits t.now) (manifest_at (stacks_in limits t.now) k)) }
 {
@@ -214,7 +207,7 @@ fn docks_place(t: &[u32], limits: Limits, rows: &[u32], k: usize) -> Found
 }
 
 // 19 top heavy, S5: the weight above the bottom item is within the truck's limit.
-fn top_heavy_place(t: &[u32], limits: Limits, rows: &[u32], k: usize) -> Found
+fn top_heavy_place(t: &[u32], limits: Limits, rows: &[u32], k: usize) -> Option<Place>
     requires { HoldsRows limits t.now rows.now × (k < length (stacks_in limits t.now)) }
     ensures { result ≡ lowest_in (own_places OwnRule.TopHeavy (instance_in limits t.now) (manifest_at (stacks_in limits t.now) k)) }
 {
@@ -225,7 +218,7 @@ fn top_heavy_place(t: &[u32], limits: Limits, rows: &[u32], k: usize) -> Found
 }
 
 // 20 too many, S6: no more items than the maximal stackability.
-fn too_many_place(t: &[u32], limits: Limits, rows: &[u32], k: usize) -> Found
+fn too_many_place(t: &[u32], limits: Limits, rows: &[u32], k: usize) -> Option<Place>
     requires { HoldsRows limits t.now rows.now × (k < length (stacks_in limits t.now)) }
     ensures { result ≡ lowest_in (own_places OwnRule.TooMany (instance_in limits t.now) (manifest_at (stacks_in limits t.now) k)) }
 {
@@ -244,7 +237,7 @@ fn density_kept(weight: u32, limit: u32, length: u32, width: u32) -> bool
 }
 
 // 21 dense, S7: the weight on the ground is within the truck's density limit.
-fn dense_place(t: &[u32], limits: Limits, rows: &[u32], k: usize) -> Found
+fn dense_place(t: &[u32], limits: Limits, rows: &[u32], k: usize) -> Option<Place>
     requires { HoldsRows limits t.now rows.now × (k < length (stacks_in limits t.now)) }
     ensures { result ≡ lowest_in (own_places OwnRule.Dense (instance_in limits t.now) (manifest_at (stacks_in limits t.now) k)) }
 {
@@ -274,7 +267,7 @@ fn exceeded_side(length: bool, width: bool) -> u32
 }
 
 // 22 outside, P1: the stack is within the trailer.
-fn outside_place(t: &[u32], limits: Limits, rows: &[u32], k: usize) -> Found
+fn outside_place(t: &[u32], limits: Limits, rows: &[u32], k: usize) -> Option<Place>
     requires { HoldsRows limits t.now rows.now × (k < length (stacks_in limits t.now)) }
     ensures { result ≡ lowest_in (own_places OwnRule.Outside (instance_in limits t.now) (manifest_at (stacks_in limits t.now) k)) }
 {
@@ -291,7 +284,7 @@ fn outside_place(t: &[u32], limits: Limits, rows: &[u32], k: usize) -> Found
 }
 
 // Where the stack at place k breaks a rule on itself.
-fn own_place(rule: OwnRule, t: &[u32], limits: Limits, rows: &[u32], k: usize) -> Found
+fn own_place(rule: OwnRule, t: &[u32], limits: Limits, rows: &[u32], k: usize) -> Option<Place>
     requires { HoldsRows limits t.now rows.now × (k < length (stacks_in limits t.now)) }
     ensures { result ≡ lowest_in (own_places rule (instance_in limits t.now) (manifest_at (stacks_in limits t.now) k)) }
 {
@@ -309,57 +302,33 @@ fn own_rules_kept(t: &[u32], limits: Limits, rows: &[u32], k: usize) -> bool
     requires { HoldsRows limits t.now rows.now × (k < length (stacks_in limits t.now)) }
     ensures { (result ≡ true) ↔ OwnRulesKept (instance_in limits t.now) (manifest_at (stacks_in limits t.now) k) }
 {
-    let docks = is_nothing(docks_place(t, limits, rows, k));
-    let top = is_nothing(top_heavy_place(t, limits, rows, k));
-    let count = is_nothing(too_many_place(t, limits, rows, k));
-    let density = is_nothing(dense_place(t, limits, rows, k));
-    let ground = is_nothing(outside_place(t, limits, rows, k));
+    let docks = docks_place(t, limits, rows, k).is_none();
+    let top = top_heavy_place(t, limits, rows, k).is_none();
+    let count = too_many_place(t, limits, rows, k).is_none();
+    let density = dense_place(t, limits, rows, k).is_none();
+    let ground = outside_place(t, limits, rows, k).is_none();
     (((docks & top) & count) & density) & ground
 }
 
 // ---- the first rule on stacks that is broken
 
-// A broken rule by its rank, and a place where it is broken. Where no rule is, the rank is RULES and the place is zeros.
-#[derive(Clone, Copy)]
+// A broken rule by its rank, and a place where it is broken. Of two breaches the sooner is the lower: that of the lower rank, and of one
+// rule the lower place.
+#[derive(Clone, Copy, PartialEq, Eq, PartialOrd, Ord)]
 pub struct Breach {
     pub rank: usize,
     pub place: Place,
 }
 
-// No rule is broken.
-fn no_breach() -> Breach
-    ensures { result ≡ no_breach }
-{
-    Breach {
-        rank: RULES,
-        place: Place {
-            first: 0,
-            second: 0,
-            third: 0,
-        },
-    }
-}
-
-// The sooner of two breaches: that of the lower rank, and of one rule the lower place.
-fn sooner(a: Breach, b: Breach) -> Breach
-    ensures { result ≡ sooner_of a b }
-{
-    if a.rank < b.rank {
-        return a;
-    }
-    if b.rank < a.rank {
-        return b;
-    }
-    let first = a.place;
-    let second = b.place;
-    Breach {
-        rank: a.rank,
-        place: lower_place(first, second),
-    }
-}
-
 // Where the stack at place k breaks a rule on itself, or with its item n a rule on items.
-fn stack_place(rule: StackRule, t: &[u32], limits: Limits, rows: &[u32], k: usize, n: u32) -> Found
+fn stack_place(
+    rule: StackRule,
+    t: &[u32],
+    limits: Limits,
+    rows: &[u32],
+    k: usize,
+    n: u32,
+) -> Option<Place>
     requires { HoldsRows limits t.now rows.now × (k < length (stacks_in limits t.now)) × ItemNumber (instance_in limits t.now) n }
     ensures { result ≡ lowest_in (with_item (instance_in limits t.now) (manifest_at (stacks_in limits t.now) k) n (OfStacks rule)) }
 {
@@ -373,66 +342,65 @@ fn stack_place(rule: StackRule, t: &[u32], limits: Limits, rows: &[u32], k: usiz
 }
 
 // The same for the rule of a rank; a rule on pairs or on trucks has no place here.
-fn rank_place(rank: usize, t: &[u32], limits: Limits, rows: &[u32], k: usize, n: u32) -> Found
+fn rank_place(
+    rank: usize,
+    t: &[u32],
+    limits: Limits,
+    rows: &[u32],
+    k: usize,
+    n: u32,
+) -> Option<Place>
     requires { HoldsRows limits t.now rows.now × (k < length (stacks_in limits t.now)) × ItemNumber (instance_in limits t.now) n × (rank < rule_count) }
     ensures { result ≡ lowest_in (with_item (instance_in limits t.now) (manifest_at (stacks_in limits t.now) k) n (rule_at rank)) }
 {
     let rule = rule_at(rank);
     match rule {
         Rule::OfStacks(each) => stack_place(each, t, limits, rows, k, n),
-        Rule::OfPairs(_) => Found::Nothing,
-        Rule::OfTrucks(_) => Found::Nothing,
+        Rule::OfPairs(_) => None,
+        Rule::OfTrucks(_) => None,
     }
 }
 
 // The first rule that the stack at place k breaks by itself or with its item n.
-fn breach_with_item(t: &[u32], limits: Limits, rows: &[u32], k: usize, n: u32) -> Breach
+fn breach_with_item(t: &[u32], limits: Limits, rows: &[u32], k: usize, n: u32) -> Option<Breach>
     requires { HoldsRows limits t.now rows.now × (k < length (stacks_in limits t.now)) × ItemNumber (instance_in limits t.now) n }
     ensures { FirstOf (with_item (instance_in limits t.now) (manifest_at (stacks_in limits t.now) k) n) result }
 {
-    let mut rank = 0;
-    while rank < RULES {
-        let found = rank_place(rank, t, limits, rows, k, n);
-        match found {
-            Found::At(place) => return Breach { rank, place },
-            Found::Nothing => {}
+    for rank in 0..RULES {
+        if let Some(place) = rank_place(rank, t, limits, rows, k, n) {
+            return Some(Breach { rank, place });
         }
-        rank += 1;
     }
-    no_breach()
+    None
 }
 
 // The first rule on stacks that the stack at place k breaks, with its lowest place there. No rule is asked by itself where all are kept,
 // as they mostly are.
-fn stack_breach(t: &[u32], limits: Limits, rows: &[u32], k: usize) -> Breach
+fn stack_breach(t: &[u32], limits: Limits, rows: &[u32], k: usize) -> Option<Breach>
     requires { HoldsRows limits t.now rows.now × (k < length (stacks_in limits t.now)) }
     ensures { FirstOnStacks (instance_in limits t.now) (manifest_at (stacks_in limits t.now) k ∷ []) result }
 {
     let own = own_rules_kept(t, limits, rows, k);
     let s = stack_at(rows, k);
     let items = load(t, limits, s);
-    let mut first = no_breach();
-    let mut j = items.len();
-    while 0 < j {
-        j -= 1;
+    let mut first = None;
+    for j in (0..items.len()).rev() {
         let n = items[j];
         if !(own & item_keeps_rules(t, limits, s, n)) {
-            first = sooner(breach_with_item(t, limits, rows, k, n), first);
+            first = lower_of(breach_with_item(t, limits, rows, k, n), first);
         }
     }
     first
 }
 
 // The first rule on stacks that the plan breaks, with its lowest place.
-pub fn first_on_stacks(t: &[u32], limits: Limits, rows: &[u32]) -> Breach
+pub fn first_on_stacks(t: &[u32], limits: Limits, rows: &[u32]) -> Option<Breach>
     requires { HoldsRows limits t.now rows.now }
     ensures { FirstOnStacks (instance_in limits t.now) (stacks_in limits t.now) result }
 {
-    let mut first = no_breach();
-    let mut k = stack_count(t, limits);
-    while 0 < k {
-        k -= 1;
-        first = sooner(stack_breach(t, limits, rows, k), first);
+    let mut first = None;
+    for k in (0..stack_count(t, limits)).rev() {
+        first = lower_of(stack_breach(t, limits, rows, k), first);
     }
     first
 }

@@ -1,10 +1,6 @@
 -- No stack passed so far is on, so the departure counts exactly where one of those left is.
-use Prim.Native.Nat.{◌-◌}
 use Rattle.axles.proofs.Places.{NoneBefore}
 use Rattle.axles.proofs.departure_counts.Given as goal
 
 abbrev pub invariant-loop-k : goal.invariant-loop-k
-invariant-loop-k l = NoneBefore l.rows l.departure l.initial.k l.k l.end
-
-abbrev pub decreases-loop-k : goal.decreases-loop-k
-decreases-loop-k l = l.end - l.k
+invariant-loop-k l = NoneBefore l.rows l.departure l.fn.on.start l.k l.fn.on.end

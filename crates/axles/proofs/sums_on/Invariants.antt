@@ -3,7 +3,4 @@ use Rattle.axles.proofs.Places.{SumsFrom}
 use Rattle.axles.proofs.sums_on.Given as goal
 
 abbrev pub invariant-loop-k : goal.invariant-loop-k
-invariant-loop-k l = SumsFrom l.rows l.departure l.twice l.start l.k l.initial.k l.weight l.levers
-
-abbrev pub decreases-loop-k : goal.decreases-loop-k
-decreases-loop-k l = l.k
+invariant-loop-k l = SumsFrom l.rows l.departure l.twice l.fn.on.start l.k l.fn.on.end l.weight l.levers

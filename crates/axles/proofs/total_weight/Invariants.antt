@@ -4,7 +4,4 @@ use Rattle.axles.proofs.Places.{SumFrom}
 use Rattle.axles.proofs.total_weight.Given as goal
 
 abbrev pub invariant-loop-k : goal.invariant-loop-k
-invariant-loop-k l = SumFrom (weight_of l.rows) l.start l.k l.initial.k l.weight
-
-abbrev pub decreases-loop-k : goal.decreases-loop-k
-decreases-loop-k l = l.k
+invariant-loop-k l = SumFrom (weight_of l.rows) l.fn.on.start l.k l.fn.on.end l.weight

@@ -38,20 +38,20 @@ suppliers-list-requires c =
     rw c.row_word-truck.ensures (truck_is c.requires.0 c.args.on.start (omega (arith, c.requires.1.some, c.requires.1.within))) in
     (c.requires.0.filled, known.1)
 
-pub loop-departure-init : goal.loop-departure-init
-loop-departure-init c =
+pub loop-before-init : goal.loop-before-init
+loop-before-init c =
     let known :
     let i = instance_in c.args.limits c.args.t.now in
     (c.row_word-truck.result ≡ (used_by (manifest_at (stacks_in c.args.limits c.args.t.now) c.args.on.start)).truck) × TruckNumber i c.row_word-truck.result =
     rw c.row_word-truck.ensures (truck_is c.requires.0 c.args.on.start (omega (arith, c.requires.1.some, c.requires.1.within))) in
     (rows_bounded c.requires.0 c.requires.1, rw c.read_axle_data-axles.ensures (axles_bounded c.requires.0.filled known.1), axle_start, axle_start)
 
-pub loop-departure-preserved : goal.loop-departure-preserved
-loop-departure-preserved c = (
-  c.loop-departure.invariant.0,
-  c.loop-departure.invariant.1,
-  axle_more c.loop-departure.invariant.2 c.loop-departure-test.true c.exceeded_axles-exceeded.ensures.0 c.place_if.ensures c.lower_of-middle.ensures,
-  axle_more c.loop-departure.invariant.3 c.loop-departure-test.true c.exceeded_axles-exceeded.ensures.1 c.place_if-in-loop-departure.ensures c.lower_of-rear.ensures,
+pub loop-before-preserved : goal.loop-before-preserved
+loop-before-preserved c = (
+  c.loop-before.invariant.0,
+  c.loop-before.invariant.1,
+  axle_more c.loop-before.invariant.2 c.loop-before-test.true c.exceeded_axles-exceeded.ensures.0 c.place_if.ensures c.lower_of-middle.ensures,
+  axle_more c.loop-before.invariant.3 c.loop-before-test.true c.exceeded_axles-exceeded.ensures.1 c.place_if-in-loop-before.ensures c.lower_of-rear.ensures,
 )
 
 pub returns : goal.returns
@@ -63,4 +63,4 @@ returns c =
     let same_copy = c.row_word-copy.ensures ∙ word_is c.requires.0 c.args.on.start (omega (arith, c.requires.1.some, c.requires.1.within)) 3 (omega arith) in
     lowest_are c.requires.0 c.requires.1 (λ z. record { truck = known.0 z; copy = same_copy z }) c.read_axle_data-axles.ensures
     (ap length c.suppliers-list.ensures.0) c.total_weight.ensures c.truck_field.ensures.0 c.place_if-2.ensures
-    c.loop-departure.invariant.2 c.loop-departure.invariant.3 c.loop-departure-test.false
+    c.loop-before.invariant.2 c.loop-before.invariant.3 c.loop-before-test.false

@@ -37,7 +37,7 @@ pub row_word-requires-then-not-pair_kept : goal.row_word-requires-then-not-pair_
 row_word-requires-then-not-pair_kept c = (omega (arith, within c.loop-b.invariant.0 c.loop-b.invariant.1 c.loop-b-test.true, c.loop-b.invariant.0.held.room), omega arith)
 
 pub loop-b-preserved : goal.loop-b-preserved
-loop-b-preserved c = (c.loop-b.invariant.0, partners_more c.loop-b.invariant.0 c.loop-b.invariant.1 c.loop-b-test.true c.pair_kept.ensures c.if-not-pair_kept.false-raw, c.loop-b.invariant.2)
+loop-b-preserved c = (c.loop-b.invariant.0, partners_more c.loop-b.invariant.0 c.loop-b.invariant.1 c.loop-b-test.true c.pair_kept.ensures c.if-not-pair_kept.false, c.loop-b.invariant.2)
 
 pub search-preserved : goal.search-preserved
 search-preserved c = (stacks_more c.loop-b.invariant.0 c.loop-b.invariant.1 c.loop-b-test.false, inr (_, c.loop-b.invariant.1.around), c.loop-b.invariant.2)
@@ -47,5 +47,5 @@ returns-after-search c = c.search.invariant.2 ∙ pair_none c.search.invariant.0
 
 pub returns-then-not-pair_kept : goal.returns-then-not-pair_kept
 returns-then-not-pair_kept c =
-    pair_found c.loop-b.invariant.0 c.loop-b.invariant.1 c.loop-b-test.true c.pair_kept.ensures c.if-not-pair_kept.true-raw
+    pair_found c.loop-b.invariant.0 c.loop-b.invariant.1 c.loop-b-test.true c.pair_kept.ensures c.if-not-pair_kept.true
     c.row_word.ensures c.row_word-then-not-pair_kept.ensures

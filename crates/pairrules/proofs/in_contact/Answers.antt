@@ -12,4 +12,4 @@ returns-then-b-a c = rw (ne_eqb c.args.b.xe c.args.a.x (λ q. omega (arith, q, c
 pub returns : goal.returns
 returns c =
     rw (eq-eqb c.args.b.xe c.args.a.x (omega (arith, c.if-b-a.false)))
-    (ap₂ leb (ap₂ ◌+◌ c.higher.ensures c.least_edge.ensures) c.lower.ensures)
+    (ap₂ leb (ap₂ ◌+◌ c.max.ensures c.least_edge.ensures) c.min.ensures)

@@ -15,10 +15,10 @@ pub loop-b-init : goal.loop-b-init
 loop-b-init c = upto_start (omega (arith, c.requires))
 
 pub returns-then-not-is_single_pair : goal.returns-then-not-is_single_pair
-returns-then-not-is_single_pair c = upto_broken c.loop-b.invariant c.loop-b-test.true (same_told c.is_single_pair.ensures) c.if-not-is_single_pair.true-raw
+returns-then-not-is_single_pair c = upto_broken c.loop-b.invariant c.loop-b-test.true (same_told c.is_single_pair.ensures) c.if-not-is_single_pair.true
 
 pub loop-b-preserved : goal.loop-b-preserved
-loop-b-preserved c = upto_kept c.loop-b.invariant c.loop-b-test.true (same_told c.is_single_pair.ensures) c.if-not-is_single_pair.false-raw
+loop-b-preserved c = upto_kept c.loop-b.invariant c.loop-b-test.true (same_told c.is_single_pair.ensures) c.if-not-is_single_pair.false
 
 pub returns : goal.returns
 returns c = upto_all c.loop-b.invariant c.loop-b-test.false

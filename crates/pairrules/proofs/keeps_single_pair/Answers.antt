@@ -11,11 +11,11 @@ loop-a-init c = upto_start (omega (arith, c.requires.1.some))
 
 pub returns-then-not-is_single_behind : goal.returns-then-not-is_single_behind
 returns-then-not-is_single_behind c =
-    iff_trans (upto_broken c.loop-a.invariant c.loop-a-test.true c.is_single_behind.ensures c.if-not-is_single_behind.true-raw)
+    iff_trans (upto_broken c.loop-a.invariant c.loop-a-test.true c.is_single_behind.ensures c.if-not-is_single_behind.true)
     (single_block (instance_in c.args.limits c.args.t.now) c.requires.1)
 
 pub loop-a-preserved : goal.loop-a-preserved
-loop-a-preserved c = upto_kept c.loop-a.invariant c.loop-a-test.true c.is_single_behind.ensures c.if-not-is_single_behind.false-raw
+loop-a-preserved c = upto_kept c.loop-a.invariant c.loop-a-test.true c.is_single_behind.ensures c.if-not-is_single_behind.false
 
 pub returns : goal.returns
 returns c = iff_trans (upto_all c.loop-a.invariant c.loop-a-test.false) (single_block (instance_in c.args.limits c.args.t.now) c.requires.1)

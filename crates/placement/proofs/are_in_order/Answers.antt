@@ -9,10 +9,10 @@ pub loop-k-init : goal.loop-k-init
 loop-k-init c = upto_start (omega arith)
 
 pub returns-then-not-is_in_order : goal.returns-then-not-is_in_order
-returns-then-not-is_in_order c = iff_trans (upto_broken c.loop-k.invariant c.loop-k-test.true c.is_in_order.ensures c.if-not-is_in_order.true-raw) (ordered_two c.requires)
+returns-then-not-is_in_order c = iff_trans (upto_broken c.loop-k.invariant c.loop-k-test.true c.is_in_order.ensures c.if-not-is_in_order.true) (ordered_two c.requires)
 
 pub loop-k-preserved : goal.loop-k-preserved
-loop-k-preserved c = upto_kept c.loop-k.invariant c.loop-k-test.true c.is_in_order.ensures c.if-not-is_in_order.false-raw
+loop-k-preserved c = upto_kept c.loop-k.invariant c.loop-k-test.true c.is_in_order.ensures c.if-not-is_in_order.false
 
 pub returns : goal.returns
 returns c = iff_trans (upto_all c.loop-k.invariant c.loop-k-test.false) (ordered_two c.requires)

@@ -7,7 +7,4 @@ use Rattle.pairrules.proofs.Places.{Upto}
 use Rattle.placement.proofs.are_in_order.Given as goal
 
 abbrev pub invariant-loop-k : goal.invariant-loop-k
-invariant-loop-k l = Upto (λ i. Each (λ j. in_order_at l.rows (place_at l.on l.along i) (place_at l.on l.along j) ≡ true) 0 i) 0 l.count l.k
-
-abbrev pub decreases-loop-k : goal.decreases-loop-k
-decreases-loop-k l = l.count - l.k
+invariant-loop-k l = Upto (λ i. Each (λ j. in_order_at l.rows (place_at l.on l.along i) (place_at l.on l.along j) ≡ true) 0 i) 0 (l.on.end - l.on.start) l.k

@@ -4,6 +4,3 @@ use Rattle.placement.proofs.is_braced.Given as goal
 
 abbrev pub invariant-loop-j : goal.invariant-loop-j
 invariant-loop-j l = NoBrace l.rows l.on l.along l.k l.ground l.j
-
-abbrev pub decreases-loop-j : goal.decreases-loop-j
-decreases-loop-j l = l.j

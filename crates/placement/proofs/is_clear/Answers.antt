@@ -12,10 +12,10 @@ pub returns-then-ground-other : goal.returns-then-ground-other
 returns-then-ground-other c = clear_behind c.loop-j.invariant c.loop-j-test.true c.footprint_along-other.ensures c.if-ground-other.true
 
 pub returns-then-not-disjoint : goal.returns-then-not-disjoint
-returns-then-not-disjoint c = clear_broken c.loop-j.invariant c.loop-j-test.true c.footprint_along-other.ensures c.disjoint.ensures c.if-not-disjoint.true-raw
+returns-then-not-disjoint c = clear_broken c.loop-j.invariant c.loop-j-test.true c.footprint_along-other.ensures c.disjoint.ensures c.if-not-disjoint.true
 
 pub loop-j-preserved : goal.loop-j-preserved
-loop-j-preserved c = clear_more c.loop-j.invariant c.loop-j-test.true c.footprint_along-other.ensures c.disjoint.ensures c.if-not-disjoint.false-raw
+loop-j-preserved c = clear_more c.loop-j.invariant c.loop-j-test.true c.footprint_along-other.ensures c.disjoint.ensures c.if-not-disjoint.false
 
 pub returns : goal.returns
 returns c = clear_all c.loop-j.invariant c.loop-j-test.false

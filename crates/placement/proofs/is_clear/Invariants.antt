@@ -1,10 +1,6 @@
 -- `placement::is_clear`: those it has passed lie apart, and from one that begins where it ends x rises along the trailer.
-use Prim.Native.Nat.{◌-◌}
 use Rattle.placement.proofs.Trailer.{ClearUpto}
 use Rattle.placement.proofs.is_clear.Given as goal
 
 abbrev pub invariant-loop-j : goal.invariant-loop-j
 invariant-loop-j l = ClearUpto l.rows l.on l.along l.k l.ground l.j
-
-abbrev pub decreases-loop-j : goal.decreases-loop-j
-decreases-loop-j l = l.count - l.j

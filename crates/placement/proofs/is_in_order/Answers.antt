@@ -12,10 +12,10 @@ in_loading_order-requires c =
     (omega (arith, both), omega (arith, both))
 
 pub returns-then-not-in_loading_order : goal.returns-then-not-in_loading_order
-returns-then-not-in_loading_order c = in_order_broken c.loop-j.invariant c.loop-j-test.true c.place_along.ensures c.in_loading_order.ensures c.if-not-in_loading_order.true-raw
+returns-then-not-in_loading_order c = in_order_broken c.loop-j.invariant c.loop-j-test.true c.place_along.ensures c.in_loading_order.ensures c.if-not-in_loading_order.true
 
 pub loop-j-preserved : goal.loop-j-preserved
-loop-j-preserved c = in_order_more c.loop-j.invariant c.loop-j-test.true c.place_along.ensures c.in_loading_order.ensures c.if-not-in_loading_order.false-raw
+loop-j-preserved c = in_order_more c.loop-j.invariant c.loop-j-test.true c.place_along.ensures c.in_loading_order.ensures c.if-not-in_loading_order.false
 
 pub returns : goal.returns
 returns c = in_order_all c.loop-j.invariant c.loop-j-test.false

@@ -4,6 +4,3 @@ use Rattle.placement.proofs.placement_along.Given as goal
 
 abbrev pub invariant-loop-k : goal.invariant-loop-k
 invariant-loop-k l = PlacedFrom l.rows l.on l.along l.k l.apart l.unbraced
-
-abbrev pub decreases-loop-k : goal.decreases-loop-k
-decreases-loop-k l = l.k

@@ -8,7 +8,7 @@ use Rattle.stackrules.proofs.First.{from_none, from_more, from_end, first_same, 
 use Rattle.stackrules.proofs.first_on_stacks.Goals as goal
 
 pub loop-k-init : goal.loop-k-init
-loop-k-init c = from_none (rw (manifest_length (stacks_in c.args.limits c.args.t.now)) c.stack_count-k.ensures.0) c.no_breach-first.ensures
+loop-k-init c = from_none (rw (manifest_length (stacks_in c.args.limits c.args.t.now)) c.stack_count-k.ensures.0)
 
 pub stack_breach-requires : goal.stack_breach-requires
 stack_breach-requires c = search (rules, manifest_known)
@@ -17,7 +17,7 @@ pub loop-k-preserved : goal.loop-k-preserved
 loop-k-preserved c =
     let p = stacks_in c.args.limits c.args.t.now in
     let at = manifest_at_lem p (c.loop-k.k - 1) (manifest_known p c.loop-k.invariant c.loop-k-test.true) in
-    from_more no_stack c.loop-k.invariant c.loop-k-test.true (rw at c.stack_breach.ensures) c.sooner-first.ensures
+    from_more no_stack c.loop-k.invariant c.loop-k-test.true (rw at c.stack_breach.ensures) c.lower_of-first.ensures
 
 pub returns : goal.returns
 returns c = first_same (from_end c.loop-k.invariant c.loop-k-test.false) (λ rule on. lowest_listed _ rule on _)

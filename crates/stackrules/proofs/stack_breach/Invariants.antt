@@ -7,6 +7,3 @@ use Rattle.stackrules.proofs.stack_breach.Given as goal
 
 abbrev pub invariant-loop-j : goal.invariant-loop-j
 invariant-loop-j l = FirstFrom (with_item (instance_in l.limits l.t) (manifest_at (stacks_in l.limits l.t) l.k)) l.items l.j l.first
-
-abbrev pub decreases-loop-j : goal.decreases-loop-j
-decreases-loop-j l = l.j
