@@ -2,40 +2,37 @@
 // rows hold the stacks of a used truck together, by ascending number.
 #![tactic(auto)]
 
-ghost use Rattle.std.specs.Prelude.{◌≡◌, ◌↔◌, true, [], ◌+◌, ◌-◌, ◌*◌, ◌≤◌, ◌<◌, min, max, length};
-ghost use Rattle.meaning.specs.Table.{instance_in, stacks_in};
+ghost use Rattle.std.specs.Prelude.{[], ◌≡◌, ◌↔◌, true, ◌+◌, ◌-◌, ◌*◌, ◌≤◌, ◌<◌, length};
 ghost use Rattle.meaning.specs.Rules.{pair_places, single_pair};
 ghost use Rattle.search.specs.Lowest.{lowest_in};
 ghost use Rattle.rules.specs.LoadingRules.{pair_test};
-ghost use Rattle.manifest.specs.Manifest.{manifest_at, block, HoldsRows, OneTruck};
+ghost use Rattle.manifest.specs.Manifest.{manifest_at, block, OneTruck};
 ghost use Rattle.pairrules.specs.PairRules.{disjoint_footprints, least_footprint_edge, footprints_in_contact, ranks_before, in_order_at};
 ghost use Rattle.pairrules.specs.PairRules.{Each, SortedRows, whole_plan, BlockOf, KnownBlock, first_partner};
+ghost use Rattle.table.specs.Held.{instance_of, stacks_of};
 
-use manifest::{
-    Block, footprint_at, rank_at, row, row_word, sort, stack_at, truck_end, truck_start,
-};
-use meaning::{Limits, Place};
+use manifest::{Manifest, Block, footprint_at, rank_at, row, row_word, sort, stack_at, truck_end, truck_start};
+use meaning::Place;
 use rules::PairRule;
 use table::fields::IS;
-use table::{as_index, stack_count};
 use views::{Footprint, Rank, bottom_field};
 
 // ---- the tests
 
 // 17 second pair, S3: two stacks of one code do not both have two plant docks. Codes are read for two-dock stacks only.
-fn is_single_pair(t: &[u32], limits: Limits, rows: &[u32], a: usize, b: usize) -> bool
-    requires { HoldsRows limits t.now rows.now × (a < length (stacks_in limits t.now)) × (b < length (stacks_in limits t.now)) }
-    ensures { result ≡ single_pair (instance_in limits t.now) (manifest_at (stacks_in limits t.now) a)
-        (manifest_at (stacks_in limits t.now) b) }
+fn is_single_pair(manifest: Manifest<'_>, a: usize, b: usize) -> bool
+    requires { (a < length (stacks_of manifest.table)) × (b < length (stacks_of manifest.table)) }
+    ensures { result ≡ single_pair (instance_of manifest.entry.table) (manifest_at (stacks_of manifest.entry.table) a)
+        (manifest_at (stacks_of manifest.entry.table) b) }
 {
-    if row_word(rows, a, row::PLANT_DOCKS) != 2 {
+    if row_word(manifest.rows, a, row::PLANT_DOCKS) != 2 {
         return true;
     }
-    if row_word(rows, b, row::PLANT_DOCKS) != 2 {
+    if row_word(manifest.rows, b, row::PLANT_DOCKS) != 2 {
         return true;
     }
-    let code = bottom_field(t, limits, stack_at(rows, a), IS);
-    code != bottom_field(t, limits, stack_at(rows, b), IS)
+    let code = bottom_field(manifest.table, stack_at(manifest.rows, a), IS);
+    code != bottom_field(manifest.table, stack_at(manifest.rows, b), IS)
 }
 
 // 23 overlap, P2: two stacks are disjoint along the trailer or across it.
@@ -92,31 +89,31 @@ pub fn in_loading_order(rows: &[u32], a: usize, b: usize) -> bool
 }
 
 // Whether the stacks at two places keep a rule.
-fn pair_kept(rule: PairRule, t: &[u32], limits: Limits, rows: &[u32], a: usize, b: usize) -> bool
-    requires { HoldsRows limits t.now rows.now × (a < length (stacks_in limits t.now)) × (b < length (stacks_in limits t.now)) }
-    ensures { result ≡ pair_test rule (instance_in limits t.now) (manifest_at (stacks_in limits t.now) a)
-        (manifest_at (stacks_in limits t.now) b) }
+fn pair_kept(rule: PairRule, manifest: Manifest<'_>, a: usize, b: usize) -> bool
+    requires { (a < length (stacks_of manifest.table)) × (b < length (stacks_of manifest.table)) }
+    ensures { result ≡ pair_test rule (instance_of manifest.entry.table) (manifest_at (stacks_of manifest.entry.table) a)
+        (manifest_at (stacks_of manifest.entry.table) b) }
 {
     match rule {
-        PairRule::SecondPair => is_single_pair(t, limits, rows, a, b),
-        PairRule::Overlap => disjoint(footprint_at(rows, a), footprint_at(rows, b)),
-        PairRule::Order => in_loading_order(rows, a, b),
+        PairRule::SecondPair => is_single_pair(manifest, a, b),
+        PairRule::Overlap => disjoint(footprint_at(manifest.rows, a), footprint_at(manifest.rows, b)),
+        PairRule::Order => in_loading_order(manifest.rows, a, b),
     }
 }
 
 // ---- 17 on one used truck
 
 // Whether the stack at place a keeps 17 with each behind it, up to `end`. Most stacks do not have two plant docks: they keep it with any.
-fn is_single_behind(t: &[u32], limits: Limits, rows: &[u32], a: usize, end: usize) -> bool
-    requires { HoldsRows limits t.now rows.now × (a < end) × (end ≤ length (stacks_in limits t.now)) }
-    ensures { (result ≡ true) ↔ Each (λ b. single_pair (instance_in limits t.now) (manifest_at (stacks_in limits t.now) a)
-        (manifest_at (stacks_in limits t.now) b) ≡ true) (a + 1) end }
+fn is_single_behind(manifest: Manifest<'_>, a: usize, end: usize) -> bool
+    requires { (a < end) × (end ≤ length (stacks_of manifest.table)) }
+    ensures { (result ≡ true) ↔ Each (λ b. single_pair (instance_of manifest.entry.table) (manifest_at (stacks_of manifest.entry.table) a)
+        (manifest_at (stacks_of manifest.entry.table) b) ≡ true) (a + 1) end }
 {
-    if row_word(rows, a, row::PLANT_DOCKS) != 2 {
+    if row_word(manifest.rows, a, row::PLANT_DOCKS) != 2 {
         return true;
     }
     for b in a + 1..end {
-        if !is_single_pair(t, limits, rows, a, b) {
+        if !is_single_pair(manifest, a, b) {
             return false;
         }
     }
@@ -124,13 +121,13 @@ fn is_single_behind(t: &[u32], limits: Limits, rows: &[u32], a: usize, end: usiz
 }
 
 // Whether no two stacks of a used truck break 17.
-pub fn keeps_single_pair(t: &[u32], limits: Limits, rows: &[u32], on: Block) -> bool
-    requires { HoldsRows limits t.now rows.now × OneTruck (stacks_in limits t.now) on.start on.end }
-    ensures { (result ≡ true) ↔ (pair_places single_pair (instance_in limits t.now)
-        (block (stacks_in limits t.now) on.start on.end) ≡ []) }
+pub fn keeps_single_pair(manifest: Manifest<'_>, on: Block) -> bool
+    requires { OneTruck (stacks_of manifest.table) on.start on.end }
+    ensures { (result ≡ true) ↔ (pair_places single_pair (instance_of manifest.entry.table)
+        (block (stacks_of manifest.entry.table) on.start on.end) ≡ []) }
 {
     for a in on.start..on.end {
-        if !is_single_behind(t, limits, rows, a, on.end) {
+        if !is_single_behind(manifest, a, on.end) {
             return false;
         }
     }
@@ -184,25 +181,23 @@ fn first_partner(rule: PairRule, a: usize, on: Block) -> usize
 // are the partners of each on its used truck, so the first pair found is the lowest.
 pub fn first_pair(
     rule: PairRule,
-    t: &[u32],
-    limits: Limits,
-    rows: &[u32],
+    manifest: Manifest<'_>,
     by_number: &[u32],
 ) -> Option<Place>
-    requires { HoldsRows limits t.now rows.now × SortedRows rows.now (whole_plan (length (stacks_in limits t.now))) 1 by_number.now }
-    ensures { result ≡ lowest_in (pair_places (pair_test rule) (instance_in limits t.now) (stacks_in limits t.now)) }
+    requires { SortedRows manifest.rows.now (whole_plan (length (stacks_of manifest.table))) 1 by_number.now }
+    ensures { result ≡ lowest_in (pair_places (pair_test rule) (instance_of manifest.entry.table) (stacks_of manifest.entry.table)) }
 {
-    let count = stack_count(t, limits);
+    let count = manifest.table.stack_count();
     let mut found = None;
     let mut on = Block { start: 0, end: 0 };
     'search: for k in 0..count {
-        let a = as_index(by_number[k]);
-        on = block_at(rows, a, count, on);
+        let a = by_number[k] as usize;
+        on = block_at(manifest.rows, a, count, on);
         for b in first_partner(rule, a, on)..on.end {
-            if !pair_kept(rule, t, limits, rows, a, b) {
+            if !pair_kept(rule, manifest, a, b) {
                 found = Some(Place {
-                    first: row_word(rows, a, row::NUMBER),
-                    second: row_word(rows, b, row::NUMBER),
+                    first: row_word(manifest.rows, a, row::NUMBER),
+                    second: row_word(manifest.rows, b, row::NUMBER),
                     third: 0,
                 });
                 break 'search;

@@ -6,5 +6,5 @@ use Rattle.axles.proofs.truck_weights.Given as goal
 
 abbrev pub invariant-loop-before : goal.invariant-loop-before
 invariant-loop-before l = let u : UsedTruck = record { truck = l.truck; copy = l.copy } in
-    BoundedRows l.rows l.on × BoundedAxles l.axles × AxleFrom middle_under l.rows l.on l.axles u l.initial.before l.before l.middle
-    × AxleFrom rear_under l.rows l.on l.axles u l.initial.before l.before l.rear
+    BoundedRows l.manifest.rows.now l.on × BoundedAxles l.axles × AxleFrom middle_under l.manifest.rows.now l.on l.axles u l.initial.before l.before l.middle
+    × AxleFrom rear_under l.manifest.rows.now l.on l.axles u l.initial.before l.before l.rear

@@ -7,7 +7,7 @@ use Rattle.pairrules.proofs.Search.{pair_found, pair_none}
 use Rattle.pairrules.proofs.first_pair.Goals as goal
 
 pub search-init : goal.search-init
-search-init c = (stacks_start c.requires.0 c.requires.1, inl refl, refl)
+search-init c = (stacks_start c.args.manifest.holds c.requires, inl refl, refl)
 
 pub block_at-on-requires : goal.block_at-on-requires
 block_at-on-requires c =

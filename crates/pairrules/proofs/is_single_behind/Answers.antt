@@ -8,7 +8,7 @@ use Rattle.pairrules.proofs.is_single_behind.Goals as goal
 
 pub returns-then-row_word-ne2 : goal.returns-then-row_word-ne2
 returns-then-row_word-ne2 c =
-    let docks = c.row_word.ensures ∙ docks_are c.requires.0 _ (omega (arith, c.requires.1, c.requires.2)) in
+    let docks = c.row_word.ensures ∙ docks_are c.args.manifest.holds _ (omega (arith, c.requires.0, c.requires.1)) in
     ((λ e b from up. sym (first_not_two _ _ _ docks c.if-row_word-ne2.true)), (λ each. refl))
 
 pub loop-b-init : goal.loop-b-init

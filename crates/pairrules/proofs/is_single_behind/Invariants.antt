@@ -9,4 +9,4 @@ use Rattle.pairrules.proofs.Places.{Upto}
 use Rattle.pairrules.proofs.is_single_behind.Given as goal
 
 abbrev pub invariant-loop-b : goal.invariant-loop-b
-invariant-loop-b l = Upto (λ k. single_pair (instance_in l.limits l.t) (manifest_at (stacks_in l.limits l.t) l.a) (manifest_at (stacks_in l.limits l.t) k) ≡ true) (l.a + 1) l.end l.b
+invariant-loop-b l = Upto (λ k. single_pair (instance_in l.manifest.table.named.limits l.manifest.table.named.words.now) (manifest_at (stacks_in l.manifest.table.named.limits l.manifest.table.named.words.now) l.a) (manifest_at (stacks_in l.manifest.table.named.limits l.manifest.table.named.words.now) k) ≡ true) (l.a + 1) l.end l.b

@@ -7,15 +7,15 @@ use Rattle.pairrules.proofs.Pairs.{single_block}
 use Rattle.pairrules.proofs.keeps_single_pair.Goals as goal
 
 pub loop-a-init : goal.loop-a-init
-loop-a-init c = upto_start (omega (arith, c.requires.1.some))
+loop-a-init c = upto_start (omega (arith, c.requires.some))
 
 pub returns-then-not-is_single_behind : goal.returns-then-not-is_single_behind
 returns-then-not-is_single_behind c =
     iff_trans (upto_broken c.loop-a.invariant c.loop-a-test.true c.is_single_behind.ensures c.if-not-is_single_behind.true)
-    (single_block (instance_in c.args.limits c.args.t.now) c.requires.1)
+    (single_block (instance_in c.args.manifest.table.named.limits c.args.manifest.table.named.words.now) c.requires)
 
 pub loop-a-preserved : goal.loop-a-preserved
 loop-a-preserved c = upto_kept c.loop-a.invariant c.loop-a-test.true c.is_single_behind.ensures c.if-not-is_single_behind.false
 
 pub returns : goal.returns
-returns c = iff_trans (upto_all c.loop-a.invariant c.loop-a-test.false) (single_block (instance_in c.args.limits c.args.t.now) c.requires.1)
+returns c = iff_trans (upto_all c.loop-a.invariant c.loop-a-test.false) (single_block (instance_in c.args.manifest.table.named.limits c.args.manifest.table.named.words.now) c.requires)

@@ -6,4 +6,4 @@ use Rattle.stackrules.proofs.First.{KeptTo}
 use Rattle.stackrules.proofs.breach_with_item.Given as goal
 
 abbrev pub invariant-loop-rank : goal.invariant-loop-rank
-invariant-loop-rank l = KeptTo (with_item (instance_in l.limits l.t) (manifest_at (stacks_in l.limits l.t) l.k) l.n) l.rank
+invariant-loop-rank l = KeptTo (with_item (instance_in l.manifest.table.named.limits l.manifest.table.named.words.now) (manifest_at (stacks_in l.manifest.table.named.limits l.manifest.table.named.words.now) l.k) l.n) l.rank

@@ -6,5 +6,5 @@ use Rattle.stackrules.proofs.docks_served.Goals as goal
 
 pub returns : goal.returns
 returns c =
-    docks_listed (instance_in c.args.limits c.args.t.now) (stack_at (stacks_in c.args.limits c.args.t.now) c.args.s) c.args.n
+    docks_listed (instance_in c.args.table.named.limits c.args.table.named.words.now) (stack_at (stacks_in c.args.table.named.limits c.args.table.named.words.now) c.args.s) c.args.n
     c.stack_truck-truck.ensures.0 c.supplier_dock_order.ensures.0 c.plant_dock_order.ensures.0

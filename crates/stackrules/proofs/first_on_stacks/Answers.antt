@@ -8,14 +8,14 @@ use Rattle.stackrules.proofs.First.{from_none, from_more, from_end, first_same, 
 use Rattle.stackrules.proofs.first_on_stacks.Goals as goal
 
 pub loop-k-init : goal.loop-k-init
-loop-k-init c = from_none (rw (manifest_length (stacks_in c.args.limits c.args.t.now)) c.stack_count-k.ensures.0)
+loop-k-init c = from_none (rw (manifest_length (stacks_in c.args.manifest.table.named.limits c.args.manifest.table.named.words.now)) c.stack_count-k.ensures.0)
 
 pub stack_breach-requires : goal.stack_breach-requires
 stack_breach-requires c = search (rules, manifest_known)
 
 pub loop-k-preserved : goal.loop-k-preserved
 loop-k-preserved c =
-    let p = stacks_in c.args.limits c.args.t.now in
+    let p = stacks_in c.args.manifest.table.named.limits c.args.manifest.table.named.words.now in
     let at = manifest_at_lem p (c.loop-k.k - 1) (manifest_known p c.loop-k.invariant c.loop-k-test.true) in
     from_more no_stack c.loop-k.invariant c.loop-k-test.true (rw at c.stack_breach.ensures) c.lower_of-first.ensures
 

@@ -8,8 +8,8 @@ loop-at-preserved c = above_more c.loop-at.invariant c.loop-at-test.true c.place
 
 pub returns : goal.returns
 returns c =
-    let i = instance_in c.args.limits c.args.t.now in
-    above_end i (stacks_in c.args.limits c.args.t.now) c.loop-at.invariant c.loop-at-test.false c.item_count-at.ensures.0 c.count_items.ensures
+    let i = instance_in c.args.table.named.limits c.args.table.named.words.now in
+    above_end i (stacks_in c.args.table.named.limits c.args.table.named.words.now) c.loop-at.invariant c.loop-at-test.false c.item_count-at.ensures.0 c.count_items.ensures
 
 pub loop-at-init : goal.loop-at-init
 loop-at-init c = above_none

@@ -8,6 +8,6 @@ use Rattle.stackrules.proofs.product_carried.Goals as goal
 
 pub returns : goal.returns
 returns c =
-    let i = instance_in c.args.limits c.args.t.now in
+    let i = instance_in c.args.table.named.limits c.args.table.named.words.now in
     let list = c.products-list.ensures.0 ∙ ap (λ (k : ℕ). (truck_numbered i k).products) c.stack_truck.ensures.0 in
     c.is_listed.ensures ∙ ap₂ listed c.item_field.ensures.0 list

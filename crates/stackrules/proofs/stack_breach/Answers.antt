@@ -18,11 +18,11 @@ loop-j-preserved-then-not-own-item_keeps_rules c = from_more 0 c.loop-j.invarian
 
 pub loop-j-preserved : goal.loop-j-preserved
 loop-j-preserved c =
-    let same = stack_same c.requires.0 c.requires.1 c.stack_at-s.ensures in
+    let same = stack_same c.args.manifest.holds c.requires c.stack_at-s.ensures in
     from_kept 0 c.loop-j.invariant c.loop-j-test.true
     (all_kept_lem _ _ _ same c.own_rules_kept-own.ensures c.item_keeps_rules.ensures c.if-not-own-item_keeps_rules.false)
 
 pub returns : goal.returns
 returns c =
-    let same = stack_same c.requires.0 c.requires.1 c.stack_at-s.ensures in
+    let same = stack_same c.args.manifest.holds c.requires c.stack_at-s.ensures in
     first_same (from_end c.loop-j.invariant c.loop-j-test.false) (load_places _ _ (rw (← same) c.load-items.ensures.0) c.load-items.ensures.1.some)

@@ -9,9 +9,9 @@ pub load-items-requires : goal.load-items-requires
 load-items-requires c = search (rules, stack_there)
 
 pub item_field-requires : goal.item_field-requires
-item_field-requires c = (c.requires.0.filled, c.load-items.ensures.1.entries 0 c.load-items.ensures.1.some, omega arith)
+item_field-requires c = (c.load-items.ensures.1.entries 0 c.load-items.ensures.1.some, omega arith)
 
 pub returns : goal.returns
 returns c =
-    too_many_is c.requires.0 c.requires.1 c.row_word.ensures c.stack_at.ensures c.load-items.ensures.0 refl
+    too_many_is c.args.manifest.holds c.requires c.row_word.ensures c.stack_at.ensures c.load-items.ensures.0 refl
     c.item_field.ensures.0 c.place_if.ensures
