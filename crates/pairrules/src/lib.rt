@@ -11,7 +11,9 @@ ghost use Rattle.pairrules.specs.PairRules.{disjoint_footprints, least_footprint
 ghost use Rattle.pairrules.specs.PairRules.{Each, SortedRows, whole_plan, BlockOf, KnownBlock, first_partner};
 ghost use Rattle.table.specs.Held.{instance_of, stacks_of};
 
-use manifest::{Manifest, Block, footprint_at, rank_at, row, row_word, sort, stack_at, truck_end, truck_start};
+use manifest::{
+    Block, Manifest, footprint_at, rank_at, row, row_word, sort, stack_at, truck_end, truck_start,
+};
 use meaning::Place;
 use rules::PairRule;
 use table::fields::IS;
@@ -96,7 +98,10 @@ fn pair_kept(rule: PairRule, manifest: Manifest<'_>, a: usize, b: usize) -> bool
 {
     match rule {
         PairRule::SecondPair => is_single_pair(manifest, a, b),
-        PairRule::Overlap => disjoint(footprint_at(manifest.rows, a), footprint_at(manifest.rows, b)),
+        PairRule::Overlap => disjoint(
+            footprint_at(manifest.rows, a),
+            footprint_at(manifest.rows, b),
+        ),
         PairRule::Order => in_loading_order(manifest.rows, a, b),
     }
 }
@@ -179,11 +184,7 @@ fn first_partner(rule: PairRule, a: usize, on: Block) -> usize
 
 // The pair with the lowest first stack number, then the lowest second, that breaks a rule. The stacks are taken by ascending number, and so
 // are the partners of each on its used truck, so the first pair found is the lowest.
-pub fn first_pair(
-    rule: PairRule,
-    manifest: Manifest<'_>,
-    by_number: &[u32],
-) -> Option<Place>
+pub fn first_pair(rule: PairRule, manifest: Manifest<'_>, by_number: &[u32]) -> Option<Place>
     requires { SortedRows manifest.rows.now (whole_plan (length (stacks_of manifest.table))) 1 by_number.now }
     ensures { result ≡ lowest_in (pair_places (pair_test rule) (instance_of manifest.entry.table) (stacks_of manifest.entry.table)) }
 {

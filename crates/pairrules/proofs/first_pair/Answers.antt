@@ -12,7 +12,7 @@ search-init c = (stacks_start c.args.manifest.holds c.requires, inl refl, refl)
 pub block_at-on-requires : goal.block_at-on-requires
 block_at-on-requires c =
     let within = numbered_within c.search.invariant.0 c.search.k (omega (arith, c.stack_count-count.ensures, c.search-test.true)) in
-    (omega (arith, c.stack_count-count.ensures, within, c.as_index-a.ensures), omega (arith, c.stack_count-count.ensures, c.search.invariant.0.held.room), rw c.stack_count-count.ensures.0 c.search.invariant.1)
+    (omega (arith, c.stack_count-count.ensures, within), omega (arith, c.stack_count-count.ensures, c.search.invariant.0.held.room), rw c.stack_count-count.ensures.0 c.search.invariant.1)
 
 pub first_partner-b-requires : goal.first_partner-b-requires
 first_partner-b-requires c = c.block_at-on.ensures.behind.some
@@ -20,7 +20,7 @@ first_partner-b-requires c = c.block_at-on.ensures.behind.some
 pub loop-b-init : goal.loop-b-init
 loop-b-init c = (
   c.search.invariant.0,
-  partners_start c.search.invariant.0 c.stack_count-count.ensures.0 c.search-test.true c.as_index-a.ensures.0
+  partners_start c.search.invariant.0 c.stack_count-count.ensures.0 c.search-test.true refl
       c.block_at-on.ensures c.first_partner-b.ensures,
   c.search.invariant.2,
 )
@@ -28,7 +28,7 @@ loop-b-init c = (
 pub pair_kept-requires : goal.pair_kept-requires
 pair_kept-requires c =
     let both = within c.loop-b.invariant.0 c.loop-b.invariant.1 c.loop-b-test.true in
-    (c.loop-b.invariant.0.held, omega (arith, both), omega (arith, both))
+    (omega (arith, both), omega (arith, both))
 
 pub row_word-requires : goal.row_word-requires
 row_word-requires c = (omega (arith, within c.loop-b.invariant.0 c.loop-b.invariant.1 c.loop-b-test.true, c.loop-b.invariant.0.held.room), omega arith)
