@@ -11,11 +11,11 @@ ghost use Rattle.axles.specs.Weights.{places_of, is_on, on_at, weight_at, lever_
 ghost use Rattle.axles.specs.Weights.{axle_data, BoundedAxles, moment_by, middle_holds, rear_holds, middle_under, rear_under, exceeds, LowestPlaces};
 ghost use Rattle.table.specs.Held.{instance_of, stacks_of};
 
-use manifest::{Manifest, Block, row, row_word};
+use manifest::{Block, Manifest, row, row_word};
 use meaning::Place;
 use search::{lower_of, place_if};
-use table::fields::{CJFC, CJFH, CJFM, CM, EJCR, EJEH, EJHR, EM, EMMM, EMMR, LOAD_LIMIT};
 use table::Table;
+use table::fields::{CJFC, CJFH, CJFM, CM, EJCR, EJEH, EJHR, EM, EMMM, EMMR, LOAD_LIMIT};
 
 // ---- the stacks that are on at a departure
 
@@ -228,7 +228,8 @@ pub fn truck_weights(manifest: Manifest<'_>, on: Block) -> WeightPlaces
     let start = on.start;
     let truck = row_word(manifest.rows, start, row::TRUCK);
     let copy = row_word(manifest.rows, start, row::COPY);
-    let within = total_weight(manifest.rows, on) <= (manifest.table.truck_field(truck, LOAD_LIMIT) as u64);
+    let within = total_weight(manifest.rows, on)
+        <= (manifest.table.truck_field(truck, LOAD_LIMIT) as u64);
     let axles = read_axle_data(manifest.table, truck);
     let list = manifest.table.suppliers(truck);
     let mut middle = None;

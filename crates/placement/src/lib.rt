@@ -12,7 +12,6 @@ use manifest::{Block, footprint_at, row, row_word};
 use meaning::Place;
 use pairrules::{disjoint, in_contact, in_loading_order, order_by};
 use search::{lower_of, place_if};
-use table::as_index;
 use views::Footprint;
 
 #[derive(Clone, Copy)]
@@ -27,7 +26,7 @@ fn place_along(on: Block, along: &[u32], k: usize) -> usize
     requires { (k < length along.now) × (on.end ≤ 16777216) × (on.start ≤ on.end) }
     ensures { result ≡ place_at on along.now k }
 {
-    on.start + as_index(along[k])
+    on.start + along[k] as usize
 }
 
 // The ground that the k-th stack takes.
