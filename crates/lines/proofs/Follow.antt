@@ -7,7 +7,7 @@ use Rattle.meaning.specs.Text.{Form}
 use Rattle.meaning.specs.Reader.{Outcome, found, wrong_form, out_of_range, Reader, give, onward, ◌>>=◌, line, times}
 use Rattle.meaning.specs.Meets.{Meets}
 use Rattle.meaning.proofs.Outcomes.{Leaves, leaves_onward, leaves_line}
-use Rattle.std.specs.Prelude.{Ok, Err}
+use Rattle.std.specs.Prelude.{Ok, Err, IsErrAnd}
 use Rattle.lines.specs.declared.LineRefused.{LineRefused}
 use Rattle.lines.specs.declared.LineRefused.TheVariants.{WrongForm, OutOfRange}
 use Rattle.lines.specs.Progress.{Progress, outcome_of, reached, resumed, Going, ReadInto}
@@ -114,32 +114,41 @@ read_within file reader words p r out whole i =
     record { value = i.value; says = i.says; holds = λ g. ap whole (i.holds g); within = i.within }
 
 -- ---- a reader and then those behind it
-module _ {A B : Type 0} {file : List ℕ} {R : Reader A} {w : A → List ℕ} {p q : Progress} {front : List ℕ} (first : ReadInto file R w p q front)
-    (next : A → Reader B) where
-  -- what is read behind the first reader is read behind it from where that began
-  pub read_then : {w' w'' : B → List ℕ} {r : Progress} {back : List ℕ} (rest : ReadInto file (next first.value) w' q r back) (out : List ℕ)
-      → (Going r → out ≡ w'' rest.value) → ReadInto file (R >>= next) w'' p r out
-  read_then {r = r} rest out stands = record {
-    value = rest.value;
-    says = rest.says ∙ sym (past_reader file p q first.value R next first.says);
-    holds = stands;
-    within = rest.within;
-  }
+-- what is read behind the first reader is read from where that began
+pub behind : {A B : Type 0} {file : List ℕ} {R : Reader A} {w : A → List ℕ} {p q : Progress} {front : List ℕ} (first : ReadInto file R w p q front)
+    (next : A → Reader B) → {w' : B → List ℕ} {r : Progress} {out : List ℕ} → ReadInto file (next first.value) w' q r out → ReadInto file (R >>= next) w' p r out
+behind {file = file} {R = R} {p = p} {q = q} first next rest = record {
+  value = rest.value;
+  says = rest.says ∙ sym (past_reader file p q first.value R next first.says);
+  holds = rest.holds;
+  within = rest.within;
+}
 
--- a refusal of the first reader is one of all
-pub read_stopped : {A B : Type 0} {file : List ℕ} {R : Reader A} {w : A → List ℕ} {p : Progress} {e : LineRefused} {front : List ℕ}
+-- nothing is read behind the last one
+pub behind_last : {A B : Type 0} {file : List ℕ} {R : Reader A} {w : A → List ℕ} {p q : Progress} {front : List ℕ} (last : ReadInto file R w p q front)
+    (f : A → B) → {w' : B → List ℕ} {out : List ℕ} → (Going q → out ≡ w' (f last.value)) → ReadInto file (R >>= λ a. give (f a)) w' p q out
+behind_last {file = file} {R = R} {p = p} {q = q} last f stands = record {
+  value = f last.value;
+  says = sym (past_reader file p q last.value R (λ a. give (f a)) last.says ∙ given_reached file (f last.value) q);
+  holds = stands;
+  within = last.within;
+}
+
+-- a refusal of the first reader is one of all, and nothing is said of the words then
+pub stopped : {A B : Type 0} {file : List ℕ} {R : Reader A} {w : A → List ℕ} {p : Progress} {e : LineRefused} {front : List ℕ}
     → ReadInto file R w p (Err e) front → (next : A → Reader B) → B → {w' : B → List ℕ} {out : List ℕ} → ReadInto file (R >>= next) w' p (Err e) out
-read_stopped {file = file} {R = R} {p = p} {e = e} first next b = record {
+stopped {file = file} {R = R} {p = p} {e = e} first next b = record {
   value = b;
   says = sym (past_reader file p (Err e) first.value R next first.says);
   holds = λ g. absurd g;
   within = first.within;
 }
 
--- after a refusal nothing is said of the words
-pub any_words : {A : Type 0} {file : List ℕ} {R : Reader A} {w w' : A → List ℕ} {p : Progress} {e : LineRefused} {out out' : List ℕ}
-    → ReadInto file R w p (Err e) out → ReadInto file R w' p (Err e) out'
-any_words i = record { value = i.value; says = i.says; holds = λ g. absurd g; within = i.within }
+-- what a `?` hands on is the refusal
+pub handed_on : {A : Type 0} {file : List ℕ} {R : Reader A} {w : A → List ℕ} {p r : Progress} {e : LineRefused} {out : List ℕ}
+    → IsErrAnd r (λ x. x ≡ e) → ReadInto file R w p (Err e) out → ReadInto file R w p r out
+handed_on {r = Ok c} h i = absurd h
+handed_on {r = Err x} h i = rw h i
 
 -- ---- the same reader some times over
 module _ {A : Type 0} (R : Reader A) where

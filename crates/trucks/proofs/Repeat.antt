@@ -11,7 +11,7 @@ use lib.Seq.{take_at, drop_at, take_all}
 use Rattle.meaning.specs.Lists.{padded}
 use Rattle.meaning.specs.Reader.{Reader, onward, times}
 use Rattle.meaning.proofs.Lists.{flat_map_more}
-use Rattle.std.specs.Prelude.{Ok, Err}
+use Rattle.std.specs.Prelude.{Err}
 use Rattle.lines.specs.declared.LineRefused.{LineRefused}
 use Rattle.lines.specs.Progress.{Progress, reached, resumed, Going, WithinFile, ReadInto}
 use Rattle.lines.proofs.Follow.{onward_refused, no_refusal, more, times_first, times_next, times_done}

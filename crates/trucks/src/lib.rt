@@ -49,12 +49,7 @@ fn read_truck(file: &[u8], here: Cursor, part: &mut [u32]) -> Progress
     // Whatever stood in the truck's words before, nothing of it is left.
     clear(&mut part[0..TRUCK_WORDS]);
     let row = read_truck_fields(file, here, &mut part[0..PRODUCTS])?;
-    let products = counted_line(
-        file,
-        Ok(row),
-        b"products=",
-        &mut part[PRODUCTS..SUPPLIERS],
-    )?;
+    let products = counted_line(file, Ok(row), b"products=", &mut part[PRODUCTS..SUPPLIERS])?;
     let suppliers = counted_line(
         file,
         Ok(products.next),
