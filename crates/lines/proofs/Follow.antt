@@ -115,7 +115,7 @@ read_within file reader words p r out whole i =
 
 -- ---- a reader and then those behind it
 -- what is read behind the first reader is read from where that began
-pub behind : {A B : Type 0} {file : List ℕ} {R : Reader A} {w : A → List ℕ} {p q : Progress} {front : List ℕ} (first : ReadInto file R w p q front)
+abbrev pub behind : {A B : Type 0} {file : List ℕ} {R : Reader A} {w : A → List ℕ} {p q : Progress} {front : List ℕ} (first : ReadInto file R w p q front)
     (next : A → Reader B) → {w' : B → List ℕ} {r : Progress} {out : List ℕ} → ReadInto file (next first.value) w' q r out → ReadInto file (R >>= next) w' p r out
 behind {file = file} {R = R} {p = p} {q = q} first next rest = record {
   value = rest.value;
@@ -125,7 +125,7 @@ behind {file = file} {R = R} {p = p} {q = q} first next rest = record {
 }
 
 -- nothing is read behind the last one
-pub behind_last : {A B : Type 0} {file : List ℕ} {R : Reader A} {w : A → List ℕ} {p q : Progress} {front : List ℕ} (last : ReadInto file R w p q front)
+abbrev pub behind_last : {A B : Type 0} {file : List ℕ} {R : Reader A} {w : A → List ℕ} {p q : Progress} {front : List ℕ} (last : ReadInto file R w p q front)
     (f : A → B) → {w' : B → List ℕ} {out : List ℕ} → (Going q → out ≡ w' (f last.value)) → ReadInto file (R >>= λ a. give (f a)) w' p q out
 behind_last {file = file} {R = R} {p = p} {q = q} last f stands = record {
   value = f last.value;
