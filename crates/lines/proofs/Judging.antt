@@ -11,9 +11,10 @@ use Rattle.meaning.specs.Lists.{padded}
 use Rattle.meaning.specs.Text.{Form}
 use Rattle.meaning.specs.Reader.{Reader, line}
 use Rattle.meaning.specs.Table.{counted_words}
-use Rattle.std.specs.Prelude.{Ok, Err, IfOk}
+use Rattle.std.specs.Prelude.{Ok, Err, IfOk, IsErrAnd}
+use Rattle.lines.specs.declared.LineRefused.{LineRefused}
 use Rattle.lines.specs.declared.Found.{Found}
-use Rattle.lines.specs.Progress.{Progress, progress_of, Going, StoredLine, entries_of, HasNumbers, judged_as, judged_entries_as}
+use Rattle.lines.specs.Progress.{Progress, outcome_of, Answer, progress_of, Going, StoredLine, entries_of, HasNumbers, judged_as, judged_entries_as}
 use Rattle.lines.specs.Progress.{JudgedBy, StoredPromise, ReadInto, ReadEntries}
 use Rattle.lines.proofs.Follow.{read_meets}
 
@@ -90,6 +91,15 @@ module _ {file : List ℕ} (f : Form) {words : List ℕ → List ℕ} {p : Progr
     (read : ReadEntries file (line f) words p (Ok found) out) where
   pub few_counted : found.value ≤ f.most
   few_counted = rw read.count (read_meets file read.into.value f p (Ok found.next) read.into.says tt).most
+
+-- what a `?` hands on is the refusal, and nothing is said of the words then
+pub refused_entries : {file : List ℕ} {reader : Reader (List ℕ)} {words words' : List ℕ → List ℕ} {p : Progress} {e : LineRefused} {out out' : List ℕ} (r : Answer ℕ)
+    → IsErrAnd r (λ x. x ≡ e) → ReadEntries file reader words p (Err e) out → ReadEntries file reader words' p r out'
+refused_entries (Ok f) h i = absurd h
+refused_entries {file = file} (Err x) h i = record {
+  into = record { value = i.into.value; says = ap outcome_of h ∙ i.into.says; holds = λ g. absurd g; within = rw h i.into.within };
+  count = tt;
+}
 
 -- the words behind the first are lent and come back, and the first becomes the count
 counted : (c : ℕ) (out lent : List ℕ) → 1 ≤ length out → set (put_mid 1 (length out - 1) out lent) 0 c ≡ c ∷ lent
