@@ -17,10 +17,9 @@ use Rattle.text.specs.declared.ParsedLine.TheVariants.{Next as LineNext, WrongFo
 use Rattle.text.specs.Words.{word, parsed_line, line_words}
 use Rattle.text.proofs.Judged.{LineStored, line_stored_lem, line_refused, line_judged, words_in_front}
 use Rattle.lines.specs.declared.Cursor.{Cursor}
-use Rattle.lines.specs.declared.Progress.{Progress}
-use Rattle.lines.specs.declared.Progress.TheVariants.{Next, WrongForm, OutOfRange}
-use Rattle.lines.specs.declared.StoredLine.TheVariants.{Numbers, WrongForm as StoredWrongForm, OutOfRange as StoredOutOfRange}
-use Rattle.lines.specs.Progress.{reached, WithinFile, RefusesLargest, StoredPromise}
+use Rattle.std.specs.Prelude.{Ok, Err}
+use Rattle.lines.specs.declared.LineRefused.TheVariants.{WrongForm, OutOfRange}
+use Rattle.lines.specs.Progress.{Progress, reached, WithinFile, RefusesLargest, StoredPromise}
 
 -- ---- words for numbers
 -- what holds of all words holds of each number's word
@@ -39,7 +38,7 @@ same_words_lem (n ∷ ns) h =
 module _ (file : List ℕ) (n : ℕ) (next : Cursor) where
   -- its outcome by the range test
   abbrev judged_line : List ℕ → Bool → Outcome (List ℕ)
-  judged_line ns t = reached file ns (cond t (Next next) (OutOfRange n))
+  judged_line ns t = reached file ns (cond t (Ok next) (Err (OutOfRange n)))
 
   -- a form that refuses the largest word does the same with words as with numbers
   words_judged : (f : Form) → RefusesLargest f → (ns : List ℕ) → length ns ≤ f.most
@@ -63,30 +62,10 @@ module _ (file : List ℕ) (n : ℕ) (next : Cursor) where
   at_line_lem e false ns = refl
 
 -- ---- what is promised of the line that follows p
--- a refusal that came in goes out
-module _ {file key out₀ out : List ℕ} {least n : ℕ} {p : Progress} where
-  pub refused_form : p ≡ WrongForm n → WithinFile file p → StoredPromise file p key least out₀ (StoredWrongForm n) out
-  refused_form e h = record {
-    says = λ f k l m low. rw e;
-    within = λ ok. subst (WithinFile file) e h;
-    room = omega arith;
-    enough = λ none. absurd none;
-    behind = λ none. absurd none;
-  }
-
-  pub refused_range : p ≡ OutOfRange n → WithinFile file p → StoredPromise file p key least out₀ (StoredOutOfRange n) out
-  refused_range e h = record {
-    says = λ f k l m low. rw e;
-    within = λ ok. subst (WithinFile file) e h;
-    room = omega arith;
-    enough = λ none. absurd none;
-    behind = λ none. absurd none;
-  }
-
-module _ (file key out₀ : List ℕ) (least : ℕ) (p : Progress) (here : Cursor) (before : p ≡ Next here) (within : WithinFile file p) (l : ParsedLine)
+module _ (file key out₀ : List ℕ) (least : ℕ) (p : Progress) (here : Cursor) (before : p ≡ Ok here) (within : WithinFile file p) (l : ParsedLine)
     (parsed : l ≡ parsed_line key least (length out₀) here.at (drop here.at file)) where
   -- the line is wrong in form
-  pub line_wrong : {out : List ℕ} → l ≡ LineRefused → StoredPromise file p key least out₀ (StoredWrongForm here.line) out
+  pub line_wrong : {out : List ℕ} → l ≡ LineRefused → StoredPromise file p key least out₀ (Err (WrongForm here.line)) out
   unfolding line at_line
   line_wrong e =
       let inside = subst (WithinFile file) before within in
@@ -111,7 +90,7 @@ module _ (file key out₀ : List ℕ) (least : ℕ) (p : Progress) (here : Curso
 
     -- its numbers are stored
     pub line_taken : (out : List ℕ) → out ≡ sets out₀ 0 (line_words key (length out₀) (drop here.at file))
-        → StoredPromise file p key least out₀ (Numbers here.line (record { at = c; line = here.line + 1 }) m) out
+        → StoredPromise file p key least out₀ (Ok (record { line = here.line; next = record { at = c; line = here.line + 1 }; count = m })) out
     unfolding line at_line
     line_taken out o =
         let s = line_stored in
