@@ -10,7 +10,7 @@ pub returns-then-line-eq0 : goal.returns-then-line-eq0
 returns-then-line-eq0 c = no_such_line c.args.line c.args.file.now c.if-line-eq0.true
 
 pub loop-passed-init : goal.loop-passed-init
-loop-passed-init c = walk_begins c.args.file.now c.args.line (c.args.line + 1 - 1) (omega arith) (omega arith)
+loop-passed-init c = walk_begins c.args.file.now c.args.line _ (omega arith) (omega arith)
 
 pub returns-then-file-start : goal.returns-then-file-start
 returns-then-file-start c = walk_ends c.loop-passed.invariant c.if-file-start.true
