@@ -5,5 +5,10 @@ use Rattle.judging.proofs.all_kept.Goals as goal
 
 pub returns : goal.returns
 returns c =
-    rw (told_nothing c.is_nothing.ensures, told_nothing c.is_nothing-2.ensures, told_nothing c.is_nothing-3.ensures, told_nothing c.is_nothing-4.ensures)
+    rw (
+      told_nothing c.args.found.placement.unbraced c.is_none.ensures,
+      told_nothing c.args.found.weights.overload c.is_none-2.ensures,
+      told_nothing c.args.found.weights.middle c.is_none-3.ensures,
+      told_nothing c.args.found.weights.rear c.is_none-4.ensures,
+    )
     refl

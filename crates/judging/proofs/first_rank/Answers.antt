@@ -10,10 +10,10 @@ pub loop-rank-init : goal.loop-rank-init
 loop-rank-init c = kept_start
 
 pub returns-then-not-is_kept : goal.returns-then-not-is_kept
-returns-then-not-is_kept c = kept_until c.loop-rank.invariant (told_of _ c.is_kept.ensures c.rule_at.ensures) c.if-not-is_kept.true-raw
+returns-then-not-is_kept c = kept_until c.loop-rank.invariant (told_of _ c.is_kept.ensures c.rule_at.ensures) c.if-not-is_kept.true
 
 pub loop-rank-preserved : goal.loop-rank-preserved
-loop-rank-preserved c = kept_on c.loop-rank.invariant c.loop-rank-test.true (told_of _ c.is_kept.ensures c.rule_at.ensures) c.if-not-is_kept.false-raw
+loop-rank-preserved c = kept_on c.loop-rank.invariant c.loop-rank-test.true (told_of _ c.is_kept.ensures c.rule_at.ensures) c.if-not-is_kept.false
 
 pub returns : goal.returns
 returns c = kept_whole c.loop-rank.invariant c.loop-rank-test.false
