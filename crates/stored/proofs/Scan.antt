@@ -1,24 +1,16 @@
 -- A loop over a list that is left at the first element which fails a test: what it has passed does not decide any more.
 use mathlib.Core.Path.{◌≡◌, refl, sym, ap, ◌∙◌}
-use mathlib.Core.Bool.{Bool, true, false, not, ◌&&◌}
+use mathlib.Core.Bool.{Bool, true, false, ◌&&◌}
 use mathlib.Core.List.{List, []}
-use Prim.Native.Nat.{ℕ, ◌+◌, ◌-◌, ◌*◌, ◌≤◌, ◌<◌}
+use Prim.Native.Nat.{ℕ, suc, ◌+◌, ◌-◌, ◌*◌, ◌≤◌, ◌<◌}
+use native.Mathlib.Nat.{mul-le-mul_left}
 use native.Mathlib.Omega.{arith}
-use lib.ListN.{length, get_or, take, drop, length-drop, drop_of_length-le}
+use lib.ListN.{length, get_or, take, drop, length-take, length-drop, drop_of_length-le}
 use lib.Seq.{take_all}
 use Rattle.meaning.specs.Lists.{all, chunks, up_from}
 use Rattle.meaning.proofs.Lists.{drop_next, length_up_from, up_from_at}
 use Rattle.table.proofs.Parts.{length_chunks, chunk_at}
 use Rattle.stored.specs.Parts.{zeros, rows_stored}
-
--- a test that was found to fail
-pub fell : (b : Bool) → not b ≡ true → b ≡ false
-fell true e = sym e
-fell false e = refl
-
-pub stood : (b : Bool) → not b ≡ false → b ≡ true
-stood true e = refl
-stood false e = sym e
 
 -- the elements from place k on decide whether all pass
 pub record Passed {A : Type 0} (test : A → Bool) (l : List A) (k : ℕ) : Type 0 where
@@ -53,11 +45,26 @@ and_failed later e = sym (ap (λ (c : Bool). c && later) e)
 pub and_passed : {b later r : Bool} → b ≡ true → r ≡ later → r ≡ (b && later)
 and_passed {later = later} e k = k ∙ sym (ap (λ (c : Bool). c && later) e)
 
+-- the same, where the result t of a call tells what the test is
+pub test_failed : {t b : Bool} (later : Bool) → t ≡ b → t ≡ false → false ≡ (b && later)
+test_failed later told e = and_failed later (sym told ∙ e)
+
+pub test_passed : {t b later r : Bool} → t ≡ b → t ≡ true → r ≡ later → r ≡ (b && later)
+test_passed told e k = and_passed (sym told ∙ e) k
+
 -- the words from a place to the end
 pub rest_lent : (at : ℕ) (ws : List ℕ) → take (length ws - at) (drop at ws) ≡ drop at ws
 rest_lent at ws = take_all (length ws - at) (drop at ws) (omega (arith, length-drop at ws))
 
--- ---- rows of w words, of which k have passed, and the next is lent as `size` words
+-- ---- rows of w words
+-- the words of one of n rows that are lent as `size` words
+pub row_lent : (w n : ℕ) (ws : List ℕ) {k size : ℕ} → size ≡ w → k < n → w * n ≤ length ws → length (take size (drop (w * k) ws)) ≡ w
+row_lent w n ws {k} {size} wide m room =
+    let next : w * suc k ≡ w * k + w = omega arith in
+    let within : w * suc k ≤ w * n = mul-le-mul_left w (omega (arith, m)) in
+    simp (length-take, length-drop) (omega (arith, wide, next, within, room))
+
+-- of which k have passed, and the next is lent as `size` words
 module _ {test : List ℕ → Bool} (w n : ℕ) (ws : List ℕ) {k : ℕ} (h : Passed test (chunks w n ws) k) where
   module _ {size : ℕ} {t : Bool} (m : k < n) (wide : size ≡ w) (told : t ≡ test (take size (drop (w * k) ws))) where
     row_told : t ≡ test (take w (drop (w * k) ws))
@@ -73,9 +80,8 @@ module _ {test : List ℕ → Bool} (w n : ℕ) (ws : List ℕ) {k : ℕ} (h : P
     row_failed e later = and_failed later (failed_one h [] (omega (arith, length_chunks w n ws)) row_here row_told e)
 
   -- behind the last the words to the end are lent
-  pub rows_passed : {r : Bool} → k ≡ n → r ≡ zeros (take (length ws - w * k) (drop (w * k) ws)) → r ≡ rows_stored test w n ws
-  rows_passed e told =
-      and_passed (passed_all h (omega (arith, length_chunks w n ws))) (told ∙ ap zeros (rest_lent (w * k) ws ∙ ap (λ (j : ℕ). drop (w * j) ws) e))
+  pub rows_passed : {r : Bool} → n ≤ k → r ≡ zeros (take (length ws - w * n) (drop (w * n) ws)) → r ≡ rows_stored test w n ws
+  rows_passed e told = and_passed (passed_all h (omega (arith, length_chunks w n ws))) (told ∙ ap zeros (rest_lent (w * n) ws))
 
 -- ---- places from 0 on, of which k have passed
 module _ {test : ℕ → Bool} (n : ℕ) {k : ℕ} (h : Passed test (up_from 0 n) k) where
