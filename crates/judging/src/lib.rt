@@ -5,27 +5,26 @@
 ghost use Rattle.std.specs.Prelude.{◌≡◌, ◌↔◌, true, [], ◌+◌, ◌-◌, ◌*◌, ◌≤◌, ◌<◌, length};
 ghost use Rattle.meaning.specs.Measures.{used_by, used_trucks};
 ghost use Rattle.meaning.specs.Rules.{loading_rules};
-ghost use Rattle.meaning.specs.Table.{instance_in, stacks_in};
 ghost use Rattle.meaning.specs.Verdict.{refusal, acceptance, first_broken, transport_cost, cost, verdict_on};
 ghost use Rattle.search.specs.Lowest.{lowest_in};
 ghost use Rattle.rules.specs.LoadingRules.{verdict_of, rule_places, rule_count};
 ghost use Rattle.rules.specs.declared.Rule.TheVariants.{OfPairs};
-ghost use Rattle.table.specs.Filled.{Filled};
-ghost use Rattle.manifest.specs.Manifest.{manifest_at, block, HoldsRows, OneTruck};
+ghost use Rattle.manifest.specs.Manifest.{manifest_at, block, OneTruck};
 ghost use Rattle.judging.specs.Judging.{with_rule, AskedBelow, joined, TellsAsked, CountsTrucks};
 ghost use Rattle.judging.specs.Judging.{pair_kept, truck_found, kept_by, all_kept, FirstRank, stack_found, SurveyOf, place_in};
 ghost use Rattle.stackrules.specs.StackRules.{rank_of};
+ghost use Rattle.table.specs.Held.{instance_of, stacks_of};
 
 use axles::{WeightPlaces, truck_weights};
 use costs::{plan_cost, truck_cost};
-use manifest::{Block, row, row_word, truck_start, write_manifest};
-use meaning::{Answer, Limits, Place};
+use manifest::{Block, Manifest, row, row_word, truck_start, write_manifest};
+use meaning::{Answer, Place};
 use pairrules::{first_pair, keeps_single_pair, order_by};
 use placement::{Placement, truck_placement};
 use rules::{NOT_ONCE, PairRule, RULES, Rule, TruckRule, rule_at};
 use search::lower_of;
 use stackrules::{Breach, first_on_stacks, lowest_not_once};
-use table::stack_count;
+use table::Table;
 
 // ---- what is asked of the used trucks
 
@@ -144,30 +143,27 @@ fn joined(a: Findings, b: Findings) -> Findings
 // What one used truck keeps and breaks, of the kinds that are asked. The keys and the places along the trailer are scratch.
 fn ask_truck(
     asked: Asked,
-    t: &[u32],
-    limits: Limits,
-    rows: &[u32],
+    manifest: Manifest<'_>,
     on: Block,
     keys: &mut [u64],
     along: &mut [u32],
 ) -> Findings
-    requires { HoldsRows limits t.now rows.now × OneTruck (stacks_in limits t.now) on.start on.end
-        × (length (stacks_in limits t.now) ≤ length keys.old) × (length (stacks_in limits t.now) ≤ length along.old) }
-    ensures told { TellsAsked asked (instance_in limits t.now) (block (stacks_in limits t.now) on.start on.end) result }
+    requires { OneTruck (stacks_of manifest.table) on.start on.end × (length (stacks_of manifest.table) ≤ length keys.old) × (length (stacks_of manifest.table) ≤ length along.old) }
+    ensures told { TellsAsked asked (instance_of manifest.entry.table) (block (stacks_of manifest.entry.table) on.start on.end) result }
     ensures lengths { (length keys.new ≡ length keys.old) × (length along.new ≡ length along.old) }
 {
     let single_pair = if asked.single_pair {
-        keeps_single_pair(t, limits, rows, on)
+        keeps_single_pair(manifest, on)
     } else {
         ALL_KEPT.single_pair
     };
     let placement = if asked.placement {
-        truck_placement(rows, on, keys, along)
+        truck_placement(manifest.rows, on, keys, along)
     } else {
         ALL_KEPT.placement
     };
     let weights = if asked.weights {
-        truck_weights(t, limits, rows, on)
+        truck_weights(manifest, on)
     } else {
         ALL_KEPT.weights
     };
@@ -179,43 +175,39 @@ fn ask_truck(
 }
 
 // The used trucks with one more, whose stacks begin at place `start`.
-fn with_truck(used: UsedTrucks, t: &[u32], limits: Limits, rows: &[u32], start: usize) -> UsedTrucks
-    requires { HoldsRows limits t.now rows.now × (start < length (stacks_in limits t.now)) × (used.count ≤ 2097152)
-        × (used.cost ≤ 4194304000000000) }
-    ensures { (result.count ≡ used.count + 1) × (result.cost ≡ transport_cost (instance_in limits t.now)
-        (used_by (manifest_at (stacks_in limits t.now) start)) + used.cost) × (result.cost ≤ used.cost + 2000000000) }
+fn with_truck(used: UsedTrucks, manifest: Manifest<'_>, start: usize) -> UsedTrucks
+    requires { (start < length (stacks_of manifest.table)) × (used.count ≤ 2097152) × (used.cost ≤ 4194304000000000) }
+    ensures { (result.count ≡ used.count + 1) × (result.cost ≡ transport_cost (instance_of manifest.entry.table)
+        (used_by (manifest_at (stacks_of manifest.entry.table) start)) + used.cost) × (result.cost ≤ used.cost + 2000000000) }
 {
-    let truck = row_word(rows, start, row::TRUCK);
-    let copy = row_word(rows, start, row::COPY);
+    let truck = row_word(manifest.rows, start, row::TRUCK);
+    let copy = row_word(manifest.rows, start, row::COPY);
     UsedTrucks {
         count: used.count + 1,
-        cost: truck_cost(t, limits, truck, copy) + used.cost,
+        cost: truck_cost(manifest.table, truck, copy) + used.cost,
     }
 }
 
 // The used trucks, from the last to the first, each asked once for all that is asked. The keys and the places along the trailer are scratch.
 fn ask_trucks(
     asked: Asked,
-    t: &[u32],
-    limits: Limits,
-    rows: &[u32],
+    manifest: Manifest<'_>,
     keys: &mut [u64],
     along: &mut [u32],
 ) -> TrucksAsked
-    requires { HoldsRows limits t.now rows.now × (length (stacks_in limits t.now) ≤ length keys.old)
-        × (length (stacks_in limits t.now) ≤ length along.old) }
-    ensures told { TellsAsked asked (instance_in limits t.now) (stacks_in limits t.now) result.found
-        × CountsTrucks (instance_in limits t.now) (stacks_in limits t.now) result.used.count result.used.cost }
+    requires { (length (stacks_of manifest.table) ≤ length keys.old) × (length (stacks_of manifest.table) ≤ length along.old) }
+    ensures told { TellsAsked asked (instance_of manifest.entry.table) (stacks_of manifest.entry.table) result.found
+        × CountsTrucks (instance_of manifest.entry.table) (stacks_of manifest.entry.table) result.used.count result.used.cost }
     ensures lengths { (length keys.new ≡ length keys.old) × (length along.new ≡ length along.old) }
 {
     let mut found = ALL_KEPT;
     let mut used = UsedTrucks { count: 0, cost: 0 };
-    let mut end = stack_count(t, limits);
+    let mut end = manifest.table.stack_count();
     while 0 < end {
-        let start = truck_start(rows, end);
+        let start = truck_start(manifest.rows, end);
         let on = Block { start, end };
-        found = joined(ask_truck(asked, t, limits, rows, on, keys, along), found);
-        used = with_truck(used, t, limits, rows, start);
+        found = joined(ask_truck(asked, manifest, on, keys, along), found);
+        used = with_truck(used, manifest, start);
         end = start;
     }
     TrucksAsked { found, used }
@@ -289,23 +281,20 @@ fn first_rank(found: Findings, upto: usize) -> usize
 // The lowest pair that breaks a rule. The keys and the order are scratch.
 fn lowest_pair(
     rule: PairRule,
-    t: &[u32],
-    limits: Limits,
-    rows: &[u32],
+    manifest: Manifest<'_>,
     keys: &mut [u64],
     order: &mut [u32],
 ) -> Option<Place>
-    requires { HoldsRows limits t.now rows.now × (length (stacks_in limits t.now) ≤ length keys.old)
-        × (length (stacks_in limits t.now) ≤ length order.old) }
-    ensures { result ≡ lowest_in (rule_places (OfPairs rule) (instance_in limits t.now) (stacks_in limits t.now)) }
+    requires { (length (stacks_of manifest.table) ≤ length keys.old) × (length (stacks_of manifest.table) ≤ length order.old) }
+    ensures { result ≡ lowest_in (rule_places (OfPairs rule) (instance_of manifest.entry.table) (stacks_of manifest.entry.table)) }
 {
-    let count = stack_count(t, limits);
+    let count = manifest.table.stack_count();
     let all = Block {
         start: 0,
         end: count,
     };
-    order_by(rows, all, row::NUMBER, keys, order);
-    first_pair(rule, t, limits, rows, order)
+    order_by(manifest.rows, all, row::NUMBER, keys, order);
+    first_pair(rule, manifest, order)
 }
 
 // The answer on a broken rule.
@@ -335,17 +324,17 @@ fn refuse_by(rule: Rule, found: Option<Place>) -> Answer
 }
 
 // The answer on a plan that keeps every rule.
-fn accept(t: &[u32], limits: Limits, used: UsedTrucks) -> Answer
-    requires { Filled limits t.now × CountsTrucks (instance_in limits t.now) (stacks_in limits t.now) used.count used.cost }
-    ensures { result ≡ acceptance (cost (instance_in limits t.now) (stacks_in limits t.now))
-        (length (used_trucks (stacks_in limits t.now))) }
+fn accept(table: Table<'_>, used: UsedTrucks) -> Answer
+    requires { CountsTrucks (instance_of table) (stacks_of table) used.count used.cost }
+    ensures { result ≡ acceptance (cost (instance_of table.entry) (stacks_of table.entry))
+        (length (used_trucks (stacks_of table.entry))) }
 {
     Answer {
         number: 0,
         first: 0,
         second: 0,
         third: 0,
-        cost: plan_cost(t, limits, used.cost),
+        cost: plan_cost(table, used.cost),
         trucks: used.count,
     }
 }
@@ -374,21 +363,14 @@ fn stack_found(first: Option<Breach>) -> Option<Place>
 }
 
 // The rules on single stacks are asked first, in one walk; of the others only those that come before the first one broken there.
-fn survey_plan(
-    t: &[u32],
-    limits: Limits,
-    rows: &[u32],
-    keys: &mut [u64],
-    along: &mut [u32],
-) -> Survey
-    requires { HoldsRows limits t.now rows.now × (length (stacks_in limits t.now) ≤ length keys.old)
-        × (length (stacks_in limits t.now) ≤ length along.old) }
-    ensures told { SurveyOf (instance_in limits t.now) (stacks_in limits t.now) result }
+fn survey_plan(manifest: Manifest<'_>, keys: &mut [u64], along: &mut [u32]) -> Survey
+    requires { (length (stacks_of manifest.table) ≤ length keys.old) × (length (stacks_of manifest.table) ≤ length along.old) }
+    ensures told { SurveyOf (instance_of manifest.entry.table) (stacks_of manifest.entry.table) result }
     ensures lengths { (length keys.new ≡ length keys.old) × (length along.new ≡ length along.old) }
 {
-    let first = first_on_stacks(t, limits, rows);
+    let first = first_on_stacks(manifest);
     let upto = rank_of(first);
-    let TrucksAsked { found, used } = ask_trucks(kinds_below(upto), t, limits, rows, keys, along);
+    let TrucksAsked { found, used } = ask_trucks(kinds_below(upto), manifest, keys, along);
     Survey {
         rank: first_rank(found, upto),
         first,
@@ -398,48 +380,33 @@ fn survey_plan(
 }
 
 // The verdict by the loading rules, each over the whole plan before the next. The keys and the order are scratch.
-fn judge_loading(
-    t: &[u32],
-    limits: Limits,
-    rows: &[u32],
-    keys: &mut [u64],
-    order: &mut [u32],
-) -> Answer
-    requires { HoldsRows limits t.now rows.now × (length (stacks_in limits t.now) ≤ length keys.old)
-        × (length (stacks_in limits t.now) ≤ length order.old) }
-    ensures { result ≡ first_broken loading_rules (instance_in limits t.now) (stacks_in limits t.now)
-        (acceptance (cost (instance_in limits t.now) (stacks_in limits t.now))
-        (length (used_trucks (stacks_in limits t.now)))) }
+fn judge_loading(manifest: Manifest<'_>, keys: &mut [u64], order: &mut [u32]) -> Answer
+    requires { (length (stacks_of manifest.table) ≤ length keys.old) × (length (stacks_of manifest.table) ≤ length order.old) }
+    ensures { result ≡ first_broken loading_rules (instance_of manifest.entry.table) (stacks_of manifest.entry.table)
+        (acceptance (cost (instance_of manifest.entry.table) (stacks_of manifest.entry.table))
+        (length (used_trucks (stacks_of manifest.entry.table)))) }
 {
-    let told = survey_plan(t, limits, rows, keys, order);
+    let told = survey_plan(manifest, keys, order);
     if told.rank == RULES {
-        return accept(t, limits, told.used);
+        return accept(manifest.table, told.used);
     }
     let rule = rule_at(told.rank);
     match rule {
         Rule::OfStacks(_) => refuse_by(rule, stack_found(told.first)),
-        Rule::OfPairs(pair) => refuse_by(rule, lowest_pair(pair, t, limits, rows, keys, order)),
+        Rule::OfPairs(pair) => refuse_by(rule, lowest_pair(pair, manifest, keys, order)),
         Rule::OfTrucks(each) => refuse_by(rule, truck_found(each, told.found)),
     }
 }
 
 // The verdict on the plan of a filled table. The other slices are lent for the search alone: a word for each item and for each stack, and for
 // each stack a key and the words of its row. What stands in them before and afterwards does not matter.
-pub fn judge(
-    t: &[u32],
-    limits: Limits,
-    keys: &mut [u64],
-    order: &mut [u32],
-    rows: &mut [u32],
-) -> Answer
-    requires { Filled limits t.now × (length (instance_in limits t.now).items ≤ length order.old)
-        × (length (stacks_in limits t.now) ≤ length keys.old) × (length (stacks_in limits t.now) ≤ length order.old)
-        × (16 * length (stacks_in limits t.now) ≤ length rows.old) }
-    ensures { result ≡ verdict_on (instance_in limits t.now) (stacks_in limits t.now) }
+pub fn judge(table: Table<'_>, keys: &mut [u64], order: &mut [u32], rows: &mut [u32]) -> Answer
+    requires { (length (instance_of table).items ≤ length order.old) × (length (stacks_of table) ≤ length keys.old) × (length (stacks_of table) ≤ length order.old) × (16 * length (stacks_of table) ≤ length rows.old) }
+    ensures { result ≡ verdict_on (instance_of table.entry) (stacks_of table.entry) }
 {
-    if let Some(place) = lowest_not_once(t, limits, order) {
+    if let Some(place) = lowest_not_once(table, order) {
         return refuse(NOT_ONCE, place);
     }
-    write_manifest(t, limits, keys, order, rows);
-    judge_loading(t, limits, rows, keys, order)
+    write_manifest(table, keys, order, rows);
+    judge_loading(Manifest { table, rows }, keys, order)
 }

@@ -8,30 +8,30 @@ pub loop-end-init : goal.loop-end-init
 loop-end-init c = (told_start c.stack_count-end.ensures.0, refl, refl)
 
 pub truck_start-start-requires : goal.truck_start-start-requires
-truck_start-start-requires c = (c.loop-end-test.true, omega (arith, c.loop-end.invariant.0.counted.within, c.requires.0.room))
+truck_start-start-requires c = (c.loop-end-test.true, omega (arith, c.loop-end.invariant.0.counted.within, c.args.manifest.holds.room))
 
 pub ask_truck-requires : goal.ask_truck-requires
 ask_truck-requires c =
-    let one = one_truck c.requires.0 c.loop-end.invariant.0 c.truck_start-start.ensures in
-    (c.requires.0, one.0, omega (arith, c.loop-end.invariant.1, c.requires.1), omega (arith, c.loop-end.invariant.2, c.requires.2))
+    let one = one_truck c.args.manifest.holds c.loop-end.invariant.0 c.truck_start-start.ensures in
+    (one.0, omega (arith, c.loop-end.invariant.1, c.requires.0), omega (arith, c.loop-end.invariant.2, c.requires.1))
 
 pub with_truck-used-requires : goal.with_truck-used-requires
 with_truck-used-requires c =
-    let here = (one_truck c.requires.0 c.loop-end.invariant.0 c.truck_start-start.ensures).0 in
-    let few = few_stacks c.requires.0.filled in
+    let here = (one_truck c.args.manifest.holds c.loop-end.invariant.0 c.truck_start-start.ensures).0 in
+    let few = few_stacks c.args.manifest.holds.filled in
     let counted = c.loop-end.invariant.0.counted in
-    (c.requires.0, omega (arith, here.some, here.within), omega (arith, few, counted.within), omega (arith, few, counted.within, counted.few))
+    (omega (arith, here.some, here.within), omega (arith, few, counted.within), omega (arith, few, counted.within, counted.few))
 
 pub loop-end-smaller : goal.loop-end-smaller
 loop-end-smaller c = c.truck_start-start.ensures.some
 
 pub loop-end-preserved : goal.loop-end-preserved
 loop-end-preserved c =
-    let one = one_truck c.requires.0 c.loop-end.invariant.0 c.truck_start-start.ensures in (
+    let one = one_truck c.args.manifest.holds c.loop-end.invariant.0 c.truck_start-start.ensures in (
       rw c.joined-found.ensures (told_more _ _ c.loop-end.invariant.0 one c.ask_truck.ensures.told c.with_truck-used.ensures),
       c.ask_truck.ensures.lengths.0 ∙ c.loop-end.invariant.1,
       c.ask_truck.ensures.lengths.1 ∙ c.loop-end.invariant.2,
     )
 
 pub returns-clause-told : goal.returns-clause-told
-returns-clause-told c = told_end c.loop-end.invariant.0 c.loop-end-test.false (few_stacks c.requires.0.filled)
+returns-clause-told c = told_end c.loop-end.invariant.0 c.loop-end-test.false (few_stacks c.args.manifest.holds.filled)

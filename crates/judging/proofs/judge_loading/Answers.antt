@@ -10,8 +10,8 @@ returns-then-told-eq-RULES c = c.accept.ensures ∙ all_kept_lem _ (rw c.if-told
 
 pub returns-in-OfStacks : goal.returns-in-OfStacks
 returns-in-OfStacks c =
-    let i = instance_in c.args.limits c.args.t.now in
-    let p = stacks_in c.args.limits c.args.t.now in
+    let i = instance_in c.args.manifest.table.named.limits c.args.manifest.table.named.words.now in
+    let p = stacks_in c.args.manifest.table.named.limits c.args.manifest.table.named.words.now in
     let told = c.survey_plan-told.ensures.told in
     let inside = rank_inside told c.if-told-eq-RULES.false in
     refused i p told inside _ c.refuse_by.ensures c.rule_at-rule.ensures
@@ -19,8 +19,8 @@ returns-in-OfStacks c =
 
 pub returns-in-OfPairs : goal.returns-in-OfPairs
 returns-in-OfPairs c =
-    let i = instance_in c.args.limits c.args.t.now in
-    let p = stacks_in c.args.limits c.args.t.now in
+    let i = instance_in c.args.manifest.table.named.limits c.args.manifest.table.named.words.now in
+    let p = stacks_in c.args.manifest.table.named.limits c.args.manifest.table.named.words.now in
     let told = c.survey_plan-told.ensures.told in
     let inside = rank_inside told c.if-told-eq-RULES.false in
     refused i p told inside _ c.refuse_by-in-OfPairs.ensures (sym c.in-OfPairs.is ∙ c.rule_at-rule.ensures)
@@ -28,8 +28,8 @@ returns-in-OfPairs c =
 
 pub returns-in-OfTrucks : goal.returns-in-OfTrucks
 returns-in-OfTrucks c =
-    let i = instance_in c.args.limits c.args.t.now in
-    let p = stacks_in c.args.limits c.args.t.now in
+    let i = instance_in c.args.manifest.table.named.limits c.args.manifest.table.named.words.now in
+    let p = stacks_in c.args.manifest.table.named.limits c.args.manifest.table.named.words.now in
     let told = c.survey_plan-told.ensures.told in
     let inside = rank_inside told c.if-told-eq-RULES.false in
     refused i p told inside _ c.refuse_by-in-OfTrucks.ensures (sym c.in-OfTrucks.is ∙ c.rule_at-rule.ensures)
