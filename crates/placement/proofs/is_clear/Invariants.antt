@@ -1,6 +1,0 @@
--- `placement::is_clear`: those it has passed lie apart, and from one that begins where it ends x rises along the trailer.
-use Rattle.placement.proofs.Trailer.{ClearUpto}
-use Rattle.placement.proofs.is_clear.Given as goal
-
-abbrev pub invariant-loop-j : goal.invariant-loop-j
-invariant-loop-j l = ClearUpto l.rows l.on l.along l.k l.ground l.j
