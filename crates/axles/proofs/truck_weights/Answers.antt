@@ -11,8 +11,8 @@ use Rattle.axles.proofs.Rows.{rows_bounded, axles_bounded}
 use Rattle.axles.proofs.Departures.{axle_start, axle_more, lowest_are}
 use Rattle.axles.proofs.truck_weights.Goals as goal
 
-pub total_weight-requires : goal.total_weight-requires
-total_weight-requires c = rows_bounded c.requires.0 c.requires.1
+pub invariant_of-load : goal.invariant_of-load
+invariant_of-load c = record { bounded = rows_bounded c.requires.0 c.requires.1 }
 
 pub truck_field-requires : goal.truck_field-requires
 truck_field-requires c =
@@ -22,8 +22,8 @@ truck_field-requires c =
     rw c.row_word-truck.ensures (truck_is c.requires.0 c.args.on.start (omega (arith, c.requires.1.some, c.requires.1.within))) in
     (c.requires.0.filled, known.1, omega arith)
 
-pub read_axle_data-axles-requires : goal.read_axle_data-axles-requires
-read_axle_data-axles-requires c =
+pub read_axle_data-requires : goal.read_axle_data-requires
+read_axle_data-requires c =
     let known :
     let i = instance_in c.args.limits c.args.t.now in
     (c.row_word-truck.result ≡ (used_by (manifest_at (stacks_in c.args.limits c.args.t.now) c.args.on.start)).truck) × TruckNumber i c.row_word-truck.result =
@@ -38,20 +38,21 @@ suppliers-list-requires c =
     rw c.row_word-truck.ensures (truck_is c.requires.0 c.args.on.start (omega (arith, c.requires.1.some, c.requires.1.within))) in
     (c.requires.0.filled, known.1)
 
-pub loop-before-init : goal.loop-before-init
-loop-before-init c =
+pub invariant_of-axles : goal.invariant_of-axles
+invariant_of-axles c =
     let known :
     let i = instance_in c.args.limits c.args.t.now in
     (c.row_word-truck.result ≡ (used_by (manifest_at (stacks_in c.args.limits c.args.t.now) c.args.on.start)).truck) × TruckNumber i c.row_word-truck.result =
     rw c.row_word-truck.ensures (truck_is c.requires.0 c.args.on.start (omega (arith, c.requires.1.some, c.requires.1.within))) in
-    (rows_bounded c.requires.0 c.requires.1, rw c.read_axle_data-axles.ensures (axles_bounded c.requires.0.filled known.1), axle_start, axle_start)
+    rw c.read_axle_data.ensures record { bounded = axles_bounded c.requires.0.filled known.1 }
+
+pub loop-before-init : goal.loop-before-init
+loop-before-init c = (axle_start, axle_start)
 
 pub loop-before-preserved : goal.loop-before-preserved
 loop-before-preserved c = (
-  c.loop-before.invariant.0,
-  c.loop-before.invariant.1,
-  axle_more c.loop-before.invariant.2 c.loop-before-test.true c.exceeded_axles-exceeded.ensures.0 c.place_if.ensures c.lower_of-middle.ensures,
-  axle_more c.loop-before.invariant.3 c.loop-before-test.true c.exceeded_axles-exceeded.ensures.1 c.place_if-in-loop-before.ensures c.lower_of-rear.ensures,
+  axle_more c.loop-before.invariant.0 c.loop-before-test.true c.exceeded-exceeded.ensures.0 c.place_if.ensures c.lower_of-middle.ensures,
+  axle_more c.loop-before.invariant.1 c.loop-before-test.true c.exceeded-exceeded.ensures.1 c.place_if-in-loop-before.ensures c.lower_of-rear.ensures,
 )
 
 pub returns : goal.returns
@@ -61,6 +62,6 @@ returns c =
     (c.row_word-truck.result ≡ (used_by (manifest_at (stacks_in c.args.limits c.args.t.now) c.args.on.start)).truck) × TruckNumber i c.row_word-truck.result =
     rw c.row_word-truck.ensures (truck_is c.requires.0 c.args.on.start (omega (arith, c.requires.1.some, c.requires.1.within))) in
     let same_copy = c.row_word-copy.ensures ∙ word_is c.requires.0 c.args.on.start (omega (arith, c.requires.1.some, c.requires.1.within)) 3 (omega arith) in
-    lowest_are c.requires.0 c.requires.1 (λ z. record { truck = known.0 z; copy = same_copy z }) c.read_axle_data-axles.ensures
+    lowest_are c.requires.0 c.requires.1 (λ z. record { truck = known.0 z; copy = same_copy z }) c.read_axle_data.ensures
     (ap length c.suppliers-list.ensures.0) c.total_weight.ensures c.truck_field.ensures.0 c.place_if-2.ensures
-    c.loop-before.invariant.2 c.loop-before.invariant.3 c.loop-before-test.false
+    c.loop-before.invariant.0 c.loop-before.invariant.1 c.loop-before-test.false
