@@ -1,7 +1,7 @@
 -- No stack passed so far is on, so the departure counts exactly where one of those left is.
 use mathlib.Core.Path.{refl}
 use Rattle.axles.proofs.Places.{none_on, on_here, none_here}
-use Rattle.axles.proofs.departure_counts.Goals as goal
+use Rattle.axles.proofs.bounded.Load.departure_counts.Goals as goal
 
 pub loop-k-init : goal.loop-k-init
 loop-k-init c = record { rest = refl }

@@ -4,7 +4,7 @@ use borrow.Author.Rules.{rules}
 use mir.Syntax.{w64}
 use mir.Val.{SFits}
 use Rattle.axles.proofs.Signed.{stored}
-use Rattle.axles.proofs.term_of.Goals as goal
+use Rattle.axles.proofs.bounded.Load.term.Goals as goal
 
 pub returns-then-is_on : goal.returns-then-is_on
 returns-then-is_on c =

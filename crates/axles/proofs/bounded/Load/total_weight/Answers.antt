@@ -4,11 +4,11 @@ use Prim.Native.Nat.{◌+◌, ◌-◌}
 use native.Mathlib.Omega.{arith}
 use Rattle.meaning.specs.Lists.{sum}
 use Rattle.axles.proofs.Places.{sum_start, sum_more, sum_end}
-use Rattle.axles.proofs.total_weight.Goals as goal
+use Rattle.axles.proofs.bounded.Load.total_weight.Goals as goal
 
 pub loop-k-init : goal.loop-k-init
 unfolding sum
-loop-k-init c = sum_start c.requires.ordered refl
+loop-k-init c = sum_start c.args.self.bounded.ordered refl
 
 pub overflow_add-weight : goal.overflow_add-weight
 unfolding sum
@@ -17,7 +17,7 @@ overflow_add-weight c =
       arith,
       ((
           sum_more c.loop-k.invariant (omega arith) (ap₂ ◌+◌ c.row_word.ensures c.loop-k.invariant.is))).is,
-      c.requires.weights (c.loop-k.k - 1) (omega (arith, c.loop-k.invariant.upto)),
+      c.args.self.bounded.weights (c.loop-k.k - 1) (omega (arith, c.loop-k.invariant.upto)),
     )
 
 pub loop-k-preserved : goal.loop-k-preserved
