@@ -2,21 +2,21 @@
 // Levers are signed: a stack whose middle lies behind the rear axle counts negative. Nothing is divided.
 #![tactic(auto)]
 
-ghost use Rattle.std.specs.Prelude.{◌≡◌, cond, ◌+◌, ◌*◌, ◌≤◌, ◌<◌, pos, nat_abs, length};
+ghost use Rattle.std.specs.Prelude.{◌≡◌, cond, ◌+◌, ◌*◌, ◌≤◌, ◌<◌, pos, nat_abs};
 ghost use Rattle.meaning.specs.Lists.{any};
 ghost use Rattle.meaning.specs.Model.{truck_numbered};
-ghost use Rattle.meaning.specs.Table.{instance_in, stacks_in};
-ghost use Rattle.table.specs.Filled.{Filled, TruckNumber};
-ghost use Rattle.manifest.specs.Manifest.{block, HoldsRows, OneTruck};
+ghost use Rattle.table.specs.Filled.{TruckNumber};
+ghost use Rattle.manifest.specs.Manifest.{block, OneTruck};
 ghost use Rattle.axles.specs.Weights.{places_of, is_on, on_at, weight_at, lever_at, weight_of, levers_of, lever_by};
 ghost use Rattle.axles.specs.Weights.{axle_data, moment_by, middle_holds, rear_holds, middle_under, rear_under, exceeds, LowestPlaces};
+ghost use Rattle.table.specs.Held.{instance_of, stacks_of};
 
 use bounded::{Axles, Load};
-use manifest::{Block, row, row_word};
-use meaning::{Limits, Place};
+use manifest::{Block, Manifest, row, row_word};
+use meaning::Place;
 use search::{lower_of, place_if};
+use table::Table;
 use table::fields::{CJFC, CJFH, CJFM, CM, EJCR, EJEH, EJHR, EM, EMMM, EMMR, LOAD_LIMIT};
-use table::{suppliers, truck_field};
 
 mod bounded;
 
@@ -38,22 +38,22 @@ struct AxleData {
 }
 
 // Of a truck. It is read once for a used truck, and not at each departure.
-fn read_axle_data(t: &[u32], limits: Limits, truck: u32) -> AxleData
-    requires { Filled limits t.now × TruckNumber (instance_in limits t.now) truck }
-    ensures { result ≡ axle_data (truck_numbered (instance_in limits t.now) truck) }
+fn read_axle_data(table: Table<'_>, truck: u32) -> AxleData
+    requires { TruckNumber (instance_of table) truck }
+    ensures { result ≡ axle_data (truck_numbered (instance_of table.entry) truck) }
 {
-    let ejhr = truck_field(t, limits, truck, EJHR);
+    let ejhr = table.truck_field(truck, EJHR);
     AxleData {
-        cm: truck_field(t, limits, truck, CM),
-        cjfm: truck_field(t, limits, truck, CJFM),
-        cjfc: truck_field(t, limits, truck, CJFC),
-        cjfh: truck_field(t, limits, truck, CJFH),
-        em: truck_field(t, limits, truck, EM),
+        cm: table.truck_field(truck, CM),
+        cjfm: table.truck_field(truck, CJFM),
+        cjfc: table.truck_field(truck, CJFC),
+        cjfh: table.truck_field(truck, CJFH),
+        em: table.truck_field(truck, EM),
         ejhr,
-        ejcr: truck_field(t, limits, truck, EJCR),
-        emmr: truck_field(t, limits, truck, EMMR),
-        emmm: truck_field(t, limits, truck, EMMM),
-        twice: 2 * (truck_field(t, limits, truck, EJEH) + ejhr),
+        ejcr: table.truck_field(truck, EJCR),
+        emmr: table.truck_field(truck, EMMR),
+        emmm: table.truck_field(truck, EMMM),
+        twice: 2 * (table.truck_field(truck, EJEH) + ejhr),
     }
 }
 
@@ -225,19 +225,22 @@ pub struct WeightPlaces {
 }
 
 // W1 and W2 of one used truck. Every departure is asked, not the last alone.
-pub fn truck_weights(t: &[u32], limits: Limits, rows: &[u32], on: Block) -> WeightPlaces
-    requires { HoldsRows limits t.now rows.now × OneTruck (stacks_in limits t.now) on.start on.end }
-    ensures { LowestPlaces (instance_in limits t.now) (block (stacks_in limits t.now) on.start on.end) result }
+pub fn truck_weights(manifest: Manifest<'_>, on: Block) -> WeightPlaces
+    requires { OneTruck (stacks_of manifest.table) on.start on.end }
+    ensures { LowestPlaces (instance_of manifest.entry.table) (block (stacks_of manifest.entry.table) on.start on.end) result }
 {
     let start = on.start;
-    let truck = row_word(rows, start, row::TRUCK);
-    let copy = row_word(rows, start, row::COPY);
-    let load = Load { rows, on };
-    let within = load.total_weight() <= (truck_field(t, limits, truck, LOAD_LIMIT) as u64);
-    let axles = Axles {
-        line: read_axle_data(t, limits, truck),
+    let truck = row_word(manifest.rows, start, row::TRUCK);
+    let copy = row_word(manifest.rows, start, row::COPY);
+    let load = Load {
+        rows: manifest.rows,
+        on,
     };
-    let list = suppliers(t, limits, truck);
+    let within = load.total_weight() <= (manifest.table.truck_field(truck, LOAD_LIMIT) as u64);
+    let axles = Axles {
+        line: read_axle_data(manifest.table, truck),
+    };
+    let list = manifest.table.suppliers(truck);
     let mut middle = None;
     let mut rear = None;
     for before in (0..list.len() as u32).rev() {
