@@ -1,3 +1,4 @@
 pub mod Scan
 pub mod Ends
 pub mod Clashes
+pub mod Firsts
