@@ -1,16 +1,13 @@
 -- A loop over a list that is left at the first element which fails a test: what it has passed does not decide any more.
-use mathlib.Core.Path.{◌≡◌, refl, sym, ap, ◌∙◌}
+use mathlib.Core.Path.{◌≡◌, refl, sym, ap, ap₂, ◌∙◌}
 use mathlib.Core.Bool.{Bool, true, false, ◌&&◌}
-use mathlib.Core.List.{List, []}
-use Prim.Native.Nat.{ℕ, suc, ◌+◌, ◌-◌, ◌*◌, ◌≤◌, ◌<◌}
-use native.Mathlib.Nat.{mul-le-mul_left}
+use mathlib.Core.List.{List, ◌++◌}
+use Prim.Native.Nat.{ℕ, zero, suc, ◌+◌, ◌-◌, ◌*◌, ◌≤◌, ◌<◌}
 use native.Mathlib.Omega.{arith}
-use lib.ListN.{length, get_or, take, drop, length-take, length-drop, drop_of_length-le}
-use lib.Seq.{take_all}
+use lib.ListN.{length, get_or, take, drop, length-append, length-drop, drop_of_length-le}
+use lib.Seq.{take_all, take_at, drop_at}
 use Rattle.meaning.specs.Lists.{all, chunks, up_from}
 use Rattle.meaning.proofs.Lists.{drop_next, length_up_from, up_from_at}
-use Rattle.table.proofs.Parts.{length_chunks, chunk_at}
-use Rattle.stored.specs.Parts.{zeros, rows_stored}
 
 -- the elements from place k on decide whether all pass
 pub record Passed {A : Type 0} (test : A → Bool) (l : List A) (k : ℕ) : Type 0 where
@@ -56,32 +53,39 @@ test_passed told e k = and_passed (sym told ∙ e) k
 pub rest_lent : (at : ℕ) (ws : List ℕ) → take (length ws - at) (drop at ws) ≡ drop at ws
 rest_lent at ws = take_all (length ws - at) (drop at ws) (omega (arith, length-drop at ws))
 
--- ---- rows of w words
--- the words of one of n rows that are lent as `size` words
-pub row_lent : (w n : ℕ) (ws : List ℕ) {k size : ℕ} → size ≡ w → k < n → w * n ≤ length ws → length (take size (drop (w * k) ws)) ≡ w
-row_lent w n ws {k} {size} wide m room =
-    let next : w * suc k ≡ w * k + w = omega arith in
-    let within : w * suc k ≤ w * n = mul-le-mul_left w (omega (arith, m)) in
-    simp (length-take, length-drop) (omega (arith, wide, next, within, room))
+-- ---- rows of w words, of which `left` are left at the front of `rest`, and the next is `row`
+module _ (w later : ℕ) (row behind : List ℕ) {left : ℕ} {rest : List ℕ} (next : later + 1 ≡ left) (cut : rest ≡ row ++ behind) (wide : length row ≡ w) where
+  pub rows_fit : w * left ≤ length rest → w * later ≤ length behind
+  rows_fit room =
+      let e : w * left ≡ w * later + w = let more : w * suc later ≡ w * later + w = omega arith in ap (λ (k : ℕ). w * k) (omega (arith, next)) ∙ more in
+      omega (arith, e, room, wide, ap length cut ∙ length-append row behind)
 
--- of which k have passed, and the next is lent as `size` words
-module _ {test : List ℕ → Bool} (w n : ℕ) (ws : List ℕ) {k : ℕ} (h : Passed test (chunks w n ws) k) where
-  module _ {size : ℕ} {t : Bool} (m : k < n) (wide : size ≡ w) (told : t ≡ test (take size (drop (w * k) ws))) where
-    row_told : t ≡ test (take w (drop (w * k) ws))
-    row_told = told ∙ ap (λ (j : ℕ). test (take j (drop (w * k) ws))) wide
+  module _ (test : List ℕ → Bool) {t : Bool} (told : t ≡ test row) where
+    row_decides : all test (chunks w left rest) ≡ (t && all test (chunks w later behind))
+    unfolding all chunks
+    row_decides =
+        let one_more : left ≡ suc later = omega (arith, next) in
+        ap₂ (λ (k : ℕ) (ws : List ℕ). all test (chunks w k ws)) one_more cut
+        ∙ ap₂ (λ (a b : List ℕ). test a && all test (chunks w later b)) (take_at row behind w wide) (drop_at row behind w wide)
+        ∙ ap (λ (b : Bool). b && all test (chunks w later behind)) (sym told)
 
-    row_here : get_or (chunks w n ws) k [] ≡ take w (drop (w * k) ws)
-    row_here = let e : 0 + w * k ≡ w * k = omega arith in chunk_at w n k 0 ws m ∙ ap (λ (j : ℕ). take w (drop j ws)) e
+    pub row_passed : t ≡ true → all test (chunks w later behind) ≡ all test (chunks w left rest)
+    row_passed e = sym (row_decides ∙ ap (λ (b : Bool). b && all test (chunks w later behind)) e)
 
-    pub row_passed : t ≡ true → Passed test (chunks w n ws) (k + 1)
-    row_passed e = passed_one h [] (omega (arith, length_chunks w n ws)) row_here row_told e
+    pub row_failed : t ≡ false → all test (chunks w left rest) ≡ false
+    row_failed e = row_decides ∙ ap (λ (b : Bool). b && all test (chunks w later behind)) e
 
-    pub row_failed : t ≡ false → (later : Bool) → false ≡ (all test (chunks w n ws) && later)
-    row_failed e later = and_failed later (failed_one h [] (omega (arith, length_chunks w n ws)) row_here row_told e)
+-- none is left
+pub rows_end : (test : List ℕ → Bool) (w : ℕ) {left : ℕ} (rest : List ℕ) → left ≡ 0 → all test (chunks w left rest) ≡ true
+unfolding all chunks
+rows_end test w rest none = ap (λ (k : ℕ). all test (chunks w k rest)) none
 
-  -- behind the last the words to the end are lent
-  pub rows_passed : {r : Bool} → n ≤ k → r ≡ zeros (take (length ws - w * n) (drop (w * n) ws)) → r ≡ rows_stored test w n ws
-  rows_passed e told = and_passed (passed_all h (omega (arith, length_chunks w n ws))) (told ∙ ap zeros (rest_lent (w * n) ws))
+-- a row that is asked for where some are left is there
+pub rows_there : (w left : ℕ) {size : ℕ} (rest : List ℕ) → size ≡ w → w * left ≤ length rest → (0 < left → length rest < size) → left ≡ 0
+rows_there w zero rest wide room out = refl
+rows_there w (suc left) rest wide room out =
+    let e : w * suc left ≡ w * left + w = omega arith in
+    absurd (omega (arith, e, wide, room, out (omega arith)))
 
 -- ---- places from 0 on, of which k have passed
 module _ {test : ℕ → Bool} (n : ℕ) {k : ℕ} (h : Passed test (up_from 0 n) k) where

@@ -65,13 +65,13 @@ fn head_stored(words: &[u32], limits: Limits) -> bool
 // Whether so many rows of one width pass a test, and the words behind them are zero.
 fn rows_stored<F: Fn(&[u32]) -> bool>(words: &[u32], width: usize, count: usize, test: F) -> bool
     requires room { width * count ≤ length words.now }
+    requires some { 1 ≤ width }
     requires test { (row : _) → length row.now ≡ width → F.pre test row }
     ensures { (passes : List ℕ → Bool) → RowTest (FnReturnsAt F.Fn test) width passes
         → result ≡ rows_stored passes width count words.now }
 {
-    for k in 0..count {
-        let first = width * k;
-        if !test(&words[first..first + width]) {
+    for row in words.chunks_exact(width).take(count) {
+        if !test(row) {
             return false;
         }
     }
@@ -86,7 +86,8 @@ fn items_stored(words: &[u32], count: usize) -> bool
     rows_stored(words, ITEM_WORDS, count, |row| item_in_range(row, LAST_DAY))
 }
 
-// Whether the docks of so many suppliers are lists behind their counts, each in a row of its own, and the words of other suppliers zero.
+// Whether the docks of so many suppliers are lists behind their counts, each in a row of its own, and the words of other suppliers zero. (Not
+// by `rows_stored`: the test of a row takes the count too, which stands among other words.)
 fn docks_stored(suppliers: usize, counts: &[u32], rows: &[u32]) -> bool
     requires { (suppliers ≤ length counts.now) × (length rows.now ≡ 8 * length counts.now) }
     ensures { result ≡ docks_stored suppliers counts.now rows.now }
@@ -131,7 +132,7 @@ fn trucks_stored(words: &[u32], count: usize) -> bool
     requires { 160 * count ≤ length words.now }
     ensures { result ≡ rows_stored truck_stored 160 count words.now }
 {
-    rows_stored(words, TRUCK_WORDS, count, |row| truck_stored(row))
+    rows_stored(words, TRUCK_WORDS, count, truck_stored)
 }
 
 // ---- stacks and loads

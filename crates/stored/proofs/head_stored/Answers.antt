@@ -2,7 +2,7 @@
 use mathlib.Core.Path.{ap, ◌∙◌}
 use native.Mathlib.Omega.{arith}
 use Rattle.stored.specs.Parts.{head_stored, zeros}
-use Rattle.stored.proofs.Scan.{passed_none, place_passed, place_failed, places_passed, rest_lent}
+use Rattle.stored.proofs.Scan.{place_passed, place_failed, places_passed, rest_lent}
 use Rattle.stored.proofs.head_stored.Goals as goal
 
 pub returns-then-not-head_number_in_range : goal.returns-then-not-head_number_in_range

@@ -1,29 +1,37 @@
--- Row after row: those that passed do not decide any more, whatever the test tells of a row's words.
-use mathlib.Core.Path.{◌≡◌, refl}
-use Prim.Native.Nat.{◌+◌, ◌-◌, ◌*◌}
-use native.Mathlib.Omega.{arith}
+-- Row after row: those that are left decide, whatever the test tells of a row's words.
+use mathlib.Core.Path.{refl, sym, ap, ◌∙◌}
 use Rattle.std.proofs.lemmas.Fn.{says_at}
-use Rattle.stored.proofs.Scan.{passed_none, row_lent, row_failed, row_passed, rows_passed}
+use Rattle.stored.specs.Parts.{zeros}
+use Rattle.stored.proofs.Scan.{and_failed, and_passed, rest_lent, rows_fit, row_passed, row_failed, rows_end, rows_there}
 use Rattle.stored.proofs.rows_stored.Goals as goal
 
-pub loop-k-init : goal.loop-k-init
-loop-k-init g c passes tells = passed_none
+pub loop-row-init : goal.loop-row-init
+loop-row-init g c =
+    rw (c.into_iter-row-iterator.ensures.into_iter_gives, c.take-row-items.ensures.source, c.take-row-items.ensures.count, c.chunks_exact.ensures.rest, c.chunks_exact.ensures.size)
+    (refl, c.requires.room, λ passes tells. refl)
 
 pub returns-then-not-test : goal.returns-then-not-test
 returns-then-not-test g c passes tells =
-    let a = c.args in
-    let at = a.width * c.loop-k.k in
-    let wide : at + a.width - at ≡ a.width = omega arith in
-    let long = row_lent a.width a.count a.words.now wide (omega arith) c.requires.room in
-    row_failed a.width a.count a.words.now (c.loop-k.invariant passes tells) (omega arith) wide (tells _ _ long (says_at g.F.Fn c.test.ensures refl)) c.if-not-test.true _
+    let steps = c.in-Some.ensures.steps in
+    let wide = steps.0.1.1 ∙ c.loop-row.invariant.0 in
+    let told = tells _ _ wide (says_at g.F.Fn c.test.ensures refl) in
+    let failed = row_failed c.args.width _ _ _ steps.1 steps.0.1.0 wide passes told c.if-not-test.true in
+    and_failed _ (sym (c.loop-row.invariant.2 passes tells) ∙ failed)
 
-pub loop-k-preserved : goal.loop-k-preserved
-loop-k-preserved g c passes tells =
-    let a = c.args in
-    let at = a.width * c.loop-k.k in
-    let wide : at + a.width - at ≡ a.width = omega arith in
-    let long = row_lent a.width a.count a.words.now wide (omega arith) c.requires.room in
-    row_passed a.width a.count a.words.now (c.loop-k.invariant passes tells) (omega arith) wide (tells _ _ long (says_at g.F.Fn c.test.ensures refl)) c.if-not-test.false
+pub loop-row-preserved : goal.loop-row-preserved
+loop-row-preserved g c =
+    let steps = c.in-Some.ensures.steps in
+    let wide = steps.0.1.1 ∙ c.loop-row.invariant.0 in (
+      steps.0.0 ∙ c.loop-row.invariant.0,
+      rows_fit c.args.width _ _ _ steps.1 steps.0.1.0 wide c.loop-row.invariant.1,
+      λ passes tells.
+          let told = tells _ _ wide (says_at g.F.Fn c.test.ensures refl) in
+          row_passed c.args.width _ _ _ steps.1 steps.0.1.0 wide passes told c.if-not-test.false ∙ c.loop-row.invariant.2 passes tells,
+    )
 
 pub returns : goal.returns
-returns g c passes tells = rows_passed c.args.width c.args.count c.args.words.now (c.loop-k.invariant passes tells) (omega arith) c.are_zero.ensures
+returns g c passes tells =
+    let steps = c.in-None.ensures.steps in
+    let none_left = rows_there c.args.width _ _ c.loop-row.invariant.0 c.loop-row.invariant.1 (λ some. (steps some).1.0) in
+    let all_passed = sym (c.loop-row.invariant.2 passes tells) ∙ rows_end passes c.args.width _ none_left in
+    and_passed all_passed (c.are_zero.ensures ∙ ap zeros (rest_lent _ c.args.words.now))
