@@ -31,7 +31,7 @@ use Rattle.table.proofs.Fill.{words_filled}
 use Rattle.ranges.specs.declared.Clash.{Clash}
 use Rattle.ranges.specs.Clashes.{items_in, clash_place}
 use Rattle.ranges.proofs.Clashes.{clashes_of}
-use Rattle.std.specs.Prelude.{Ok, Err}
+use Rattle.std.specs.Prelude.{Option as Perhaps, Ok, Err}
 use Rattle.lines.specs.declared.LineRefused.TheVariants.{WrongForm, OutOfRange}
 use Rattle.lines.specs.declared.Cursor.{Cursor}
 use Rattle.lines.specs.declared.Found.{Found}
@@ -172,7 +172,7 @@ module _ (m : Limits) (file : List ℕ) (p : Progress) (part : List ℕ) (h : Re
 
 -- ---- by the lowest code clash
 -- of the items whose words are lent
-pub clash_in : (m : Limits) (t : List ℕ) (clash : Clash) (count : ℕ) → count ≡ length (instance_in m t).items
+pub clash_in : (m : Limits) (t : List ℕ) (clash : Perhaps Clash) (count : ℕ) → count ≡ length (instance_in m t).items
     → clash_place clash ≡ lowest (code_clashes (items_in count (take (length t - 16) (drop 16 t)))) → clash_place clash ≡ lowest (code_clashes (instance_in m t))
 unfolding instance_in
 clash_in m t clash count e is =
