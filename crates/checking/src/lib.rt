@@ -10,7 +10,7 @@ ghost use Rattle.checking.specs.Checked.{CheckPromise};
 
 use judging::judge;
 use meaning::Answer;
-use reading::{FilesRead, read_files};
+use reading::read_files;
 use table::small_limits;
 
 // The verdict on the table that readable files fill. The arrays are scratch: for each stack a key and the 16 words of its row; a word for
@@ -31,7 +31,7 @@ pub fn check(instance: &[u8], plan: &[u8], table: &mut [u32]) -> Answer
     ensures { CheckPromise small instance.now plan.now table.old table.new result }
 {
     match read_files(instance, plan, table) {
-        FilesRead::Refused(refusal) => refusal,
-        FilesRead::Readable => verdict(table),
+        Ok(()) => verdict(table),
+        Err(refusal) => refusal,
     }
 }

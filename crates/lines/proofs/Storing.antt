@@ -13,13 +13,13 @@ use Rattle.meaning.specs.Reader.{Outcome, at_line, line}
 use Rattle.meaning.proofs.Tests.{true≢false}
 use Rattle.meaning.proofs.Lists.{every_map}
 use Rattle.text.specs.declared.ParsedLine.{ParsedLine}
-use Rattle.text.specs.declared.ParsedLine.TheVariants.{Next as LineNext, WrongForm as LineRefused}
 use Rattle.text.specs.Words.{word, parsed_line, line_words}
 use Rattle.text.proofs.Judged.{LineStored, line_stored_lem, line_refused, line_judged, words_in_front}
 use Rattle.lines.specs.declared.Cursor.{Cursor}
-use Rattle.std.specs.Prelude.{Ok, Err}
+use Rattle.std.specs.Prelude.{Option, Some, None, ok_or, Ok, Err, IsErrAnd}
+use Rattle.lines.specs.declared.LineRefused.{LineRefused}
 use Rattle.lines.specs.declared.LineRefused.TheVariants.{WrongForm, OutOfRange}
-use Rattle.lines.specs.Progress.{Progress, reached, WithinFile, RefusesLargest, StoredPromise}
+use Rattle.lines.specs.Progress.{Progress, reached, WithinFile, StoredLine, RefusesLargest, StoredPromise}
 
 -- ---- words for numbers
 -- what holds of all words holds of each number's word
@@ -61,11 +61,27 @@ module _ (file : List ℕ) (n : ℕ) (next : Cursor) where
   at_line_lem e true ns = rw e
   at_line_lem e false ns = refl
 
+-- ---- a line is there, or it is refused
+module _ {A E : Type 0} where
+  pub there : (o : Option A) (e : E) {x : A} → ok_or o e ≡ Ok x → o ≡ Some x
+  there (Some y) e h = cc
+  there None e h = cc
+
+  pub not_there : (o : Option A) (e : E) {y : E} → ok_or o e ≡ Err y → (o ≡ None) × (y ≡ e)
+  not_there (Some y) e h = cc
+  not_there None e h = (refl, cc)
+
+-- what a `?` hands on is the refusal
+pub stored_refused : {file key out₀ out : List ℕ} {p : Progress} {least : ℕ} (r : StoredLine) {e e' : LineRefused} → IsErrAnd r (λ x. x ≡ e) → e ≡ e'
+    → StoredPromise file p key least out₀ (Err e') out → StoredPromise file p key least out₀ r out
+stored_refused (Ok s) h same i = absurd h
+stored_refused (Err x) h same i = rw (h ∙ same) i
+
 -- ---- what is promised of the line that follows p
-module _ (file key out₀ : List ℕ) (least : ℕ) (p : Progress) (here : Cursor) (before : p ≡ Ok here) (within : WithinFile file p) (l : ParsedLine)
+module _ (file key out₀ : List ℕ) (least : ℕ) (p : Progress) (here : Cursor) (before : p ≡ Ok here) (within : WithinFile file p) (l : Option ParsedLine)
     (parsed : l ≡ parsed_line key least (length out₀) here.at (drop here.at file)) where
   -- the line is wrong in form
-  pub line_wrong : {out : List ℕ} → l ≡ LineRefused → StoredPromise file p key least out₀ (Err (WrongForm here.line)) out
+  pub line_wrong : {out : List ℕ} → l ≡ None → StoredPromise file p key least out₀ (Err (WrongForm here.line)) out
   unfolding line at_line
   line_wrong e =
       let inside = subst (WithinFile file) before within in
@@ -77,7 +93,13 @@ module _ (file key out₀ : List ℕ) (least : ℕ) (p : Progress) (here : Curso
         behind = λ none. absurd none;
       }
 
-  module _ {c m : ℕ} (taken : l ≡ LineNext c m) where
+  module _ (parsed_as : ParsedLine) (taken : l ≡ Some parsed_as) where
+    abbrev c : ℕ
+    c = parsed_as.next
+
+    abbrev m : ℕ
+    m = parsed_as.count
+
     -- the parsed line
     abbrev line_stored : LineStored key least (length out₀) here.at (drop here.at file) c m
     line_stored = line_stored_lem key least (length out₀) here.at (drop here.at file) c m (sym parsed ∙ taken)

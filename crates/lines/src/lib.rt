@@ -16,7 +16,7 @@ ghost use Rattle.lines.specs.Progress.{entries_of, judged_as, judged_entries_as,
 use meaning::Limits;
 use ranges::{are_identifiers, head_number_in_range};
 use table::clear;
-use text::{ParsedLine, parse_line};
+use text::parse_line;
 
 // Where the next line begins, and how many lines stand before it.
 #[derive(Clone, Copy, PartialEq, Eq)]
@@ -71,18 +71,18 @@ pub fn stored_line(
     ensures { StoredPromise file.now p key.now least out.old result out.new }
 {
     let here = p?;
-    match parse_line(file, here.at, key, least, out) {
-        ParsedLine::Next(at, count) => {
-            let line = here.line + 1;
-            let next = Cursor { at, line };
-            Ok(Stored {
-                line: here.line,
-                next,
-                count,
-            })
-        }
-        ParsedLine::WrongForm => Err(LineRefused::WrongForm(here.line)),
-    }
+    let wrong = LineRefused::WrongForm(here.line);
+    let parsed = parse_line(file, here.at, key, least, out).ok_or(wrong)?;
+    let line = here.line + 1;
+    let next = Cursor {
+        at: parsed.next,
+        line,
+    };
+    Ok(Stored {
+        line: here.line,
+        next,
+        count: parsed.count,
+    })
 }
 
 // How many numbers are stored; none after a refusal.

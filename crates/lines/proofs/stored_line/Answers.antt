@@ -1,13 +1,16 @@
 -- The line's numbers are stored, or it is wrong in form.
-use Rattle.lines.proofs.Storing.{line_taken, line_wrong}
+use mathlib.Core.Path.{sym, ◌∙◌}
+use Rattle.lines.proofs.Storing.{there, not_there, stored_refused, line_taken, line_wrong}
 use Rattle.lines.proofs.stored_line.Goals as goal
 
-pub returns-in-Next : goal.returns-in-Next
-returns-in-Next c =
-    line_taken c.args.file.now c.args.key.now c.args.out.now c.args.least c.args.p _ c.in_ok-here.was c.requires c.parse_line.result
-    c.parse_line.ensures.answer c.in-Next.is _ c.parse_line.ensures.words
+pub returns-in_err-parsed : goal.returns-in_err-parsed
+returns-in_err-parsed c =
+    let none_left = not_there c.parse_line.result _ (sym c.ok_or.ensures.value ∙ c.in_err-parsed.was) in
+    stored_refused _ c.from_residual-in_err-parsed.ensures.1 none_left.1
+    (line_wrong c.args.file.now c.args.key.now c.args.out.now c.args.least c.args.p _ c.in_ok-here.was c.requires c.parse_line.result
+    c.parse_line.ensures.answer none_left.0)
 
-pub returns-in-WrongForm : goal.returns-in-WrongForm
-returns-in-WrongForm c =
-    line_wrong c.args.file.now c.args.key.now c.args.out.now c.args.least c.args.p _ c.in_ok-here.was c.requires c.parse_line.result
-    c.parse_line.ensures.answer c.in-WrongForm.is
+pub returns : goal.returns
+returns c =
+    line_taken c.args.file.now c.args.key.now c.args.out.now c.args.least c.args.p _ c.in_ok-here.was c.requires c.parse_line.result
+    c.parse_line.ensures.answer c.in_ok-parsed.parsed (there c.parse_line.result _ (sym c.ok_or.ensures.value ∙ c.in_ok-parsed.was)) _ c.parse_line.ensures.words
