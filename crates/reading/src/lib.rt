@@ -17,7 +17,7 @@ use meaning::{Answer, Limits};
 use plan::{Counts, read_plan};
 use ranges::lowest_clash;
 use table::layout::{HEAD_WORDS, STACK_COUNT};
-use table::{clear, item_count, named_words, small_limits, stacks_at, truck_count};
+use table::{NamedWords, Table, clear, named_words, small_limits, stacks_at};
 
 // ---- the refusals
 // Why files are not read, by document 01's numbers.
@@ -63,8 +63,11 @@ fn fill_plan(limits: Limits, plan: &[u8], words: &mut [u32]) -> Result<(), Answe
     ensures { FillPromise limits (after_plan (instance_in limits words.old)
         (whole_file (plan_lines limits (instance_in limits words.old)) plan.now)) result words.new }
 {
-    let items = item_count(words, limits);
-    let trucks = truck_count(words, limits);
+    let table = Table {
+        named: NamedWords { words, limits },
+    };
+    let items = table.item_count();
+    let trucks = table.truck_count();
     let from = stacks_at(limits);
     match read_plan(limits, plan, Counts { items, trucks }, &mut words[from..]) {
         Ok(stacks) => {
@@ -82,7 +85,10 @@ fn fill_after_instance(limits: Limits, plan: &[u8], words: &mut [u32]) -> Result
     ensures { FillPromise limits (after_clash limits (instance_in limits words.old) plan.now
         (lowest (code_clashes (instance_in limits words.old)))) result words.new }
 {
-    let items = item_count(words, limits);
+    let table = Table {
+        named: NamedWords { words, limits },
+    };
+    let items = table.item_count();
     match lowest_clash(&words[HEAD_WORDS..], items) {
         Some(clash) => refused(Refusal::CodeClash, clash.item, clash.first),
         None => fill_plan(limits, plan, words),
