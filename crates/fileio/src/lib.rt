@@ -31,7 +31,7 @@ fn open<R: Files>(files: &R, path: &[u8]) -> Option<R::File> {
 }
 
 // What a file has, at the start of the buffer that it is read into. A file that is not there has no byte, and of one that is longer it is as
-// much as fills the buffer.
+// much as fills the buffer. The buffer is the caller's, so that no reading ends for want of memory.
 pub fn read_file<'a, R: Files>(files: &R, path: &[u8], buffer: &'a mut [u8]) -> &'a [u8]
     ensures fits { length result.now ≤ length buffer.old }
     ensures place { result.ref_ptr ≡ buffer.entry.ref_ptr }
@@ -73,7 +73,8 @@ pub fn read_file_in<'a, R: Files>(
     }
 }
 
-// The answer in six lines, in the order of document 01.
+// The answer in six lines, in the order of document 01. A function, since only the answer's own crate could make it a Display, and that one
+// prints nothing.
 pub fn print_answer<W: Write>(out: &mut W, answer: Answer) -> io::Result<()>
     ensures { OnOk result (Appends (W.contents out.old) (W.contents out.new) (answer_lines answer)) }
 {

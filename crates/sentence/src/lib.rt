@@ -11,7 +11,7 @@ use std::io;
 use std::io::Write;
 
 // What is said of a verdict, by its number. A '#' is a mark, and stands for a number: one of the places or, of an accepted plan, its cost and then its
-// used trucks.
+// used trucks. A table and no enum, since an answer has the number alone and document 01's table counts by it.
 const PATTERNS: [&str; 29] = [
     "accepted: cost # thousandths, used trucks #",
     "short table: under 8,976 words",
