@@ -10,7 +10,7 @@ use Rattle.meaning.specs.Files.{Range, ◌to◌, number_line}
 use Rattle.std.specs.Prelude.{Ok, Err, IsErrAnd}
 use Rattle.lines.specs.declared.LineRefused.{LineRefused}
 use Rattle.lines.specs.declared.Cursor.{Cursor}
-use Rattle.lines.specs.Progress.{Progress, at_start, Going, Answer, ReadInto}
+use Rattle.lines.specs.Progress.{Progress, at_start, Going, LineResult, ReadInto}
 use Rattle.lines.proofs.Follow.{behind, behind_last, stopped, handed_on}
 use Rattle.instance.specs.declared.HeadCounts.{HeadCounts}
 use Rattle.instance.specs.Words.{HeadNumbers, head_lines, head_row, HeadPromise}
@@ -94,7 +94,7 @@ module _ (m : Limits) {file : List ℕ} where
               record { into = head_read trucks (λ g. stands); items = refl; trucks = refl; items_within = few_items; trucks_within = few_trucks }
 
 -- a refusal has no counts
-pub head_refused : {m : Limits} {file : List ℕ} {e : LineRefused} {part : List ℕ} (r : Answer HeadCounts) → IsErrAnd r (λ x. x ≡ e)
+pub head_refused : {m : Limits} {file : List ℕ} {e : LineRefused} {part : List ℕ} (r : LineResult HeadCounts) → IsErrAnd r (λ x. x ≡ e)
     → ReadInto file (head_lines m) head_row at_start (Err e) part → HeadPromise m file r part
 head_refused (Ok f) h i = absurd h
 head_refused (Err x) h i = record { into = handed_on h i; items = tt; trucks = tt; items_within = tt; trucks_within = tt }

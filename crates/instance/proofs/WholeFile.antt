@@ -11,7 +11,7 @@ use Rattle.meaning.specs.Table.{truck_words}
 use Rattle.std.specs.Prelude.{Ok, Err}
 use Rattle.lines.specs.declared.LineRefused.{LineRefused}
 use Rattle.lines.specs.declared.Cursor.{Cursor}
-use Rattle.lines.specs.declared.Found.{Found}
+use Rattle.lines.specs.declared.LineValue.{LineValue}
 use Rattle.lines.specs.Progress.{Progress, at_start, Going, ended_as, ReadInto}
 use Rattle.lines.proofs.Follow.{regroup, behind, behind_last, stopped, times_count}
 use Rattle.trucks.specs.Rows.{rows}
@@ -53,7 +53,7 @@ module _ {m : Limits} {file a : List ℕ} where
   head_refuses {out = out} h = stopped (as_lines m {words = instance_words m} {out = out} (stopped h.into after_head no_instance)) at_end no_instance
 
   -- the counts in the head are those of the items and trucks
-  module _ {head : Found HeadCounts} (h : HeadPromise m file (Ok head) a) where
+  module _ {head : LineValue HeadCounts} (h : HeadPromise m file (Ok head) a) where
     abbrev numbers : HeadNumbers
     numbers = h.into.value
 

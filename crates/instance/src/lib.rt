@@ -10,7 +10,9 @@ ghost use Rattle.lines.specs.Progress.{at_start, WithinFile, ReadInto};
 ghost use Rattle.trucks.specs.Rows.{rows};
 ghost use Rattle.instance.specs.Words.{HeadPromise, instance_file, instance_words};
 
-use lines::{Answer, Cursor, Found, Progress, START, at_end, head_line, judged, stored_line};
+use lines::{
+    Cursor, LineResult, LineValue, Progress, START, at_end, head_line, judged, stored_line,
+};
 use meaning::Limits;
 use ranges::{LAST_DAY, item_in_range};
 use table::layout::{EXTRA, HEAD_WORDS, INVENTORY, ITEM_COUNT, ITEM_WORDS, TRANSPORT, TRUCK_COUNT};
@@ -53,7 +55,7 @@ pub struct HeadCounts {
 }
 
 // The five lines that the file begins with.
-fn read_head(limits: Limits, file: &[u8], part: &mut [u32]) -> Answer<HeadCounts>
+fn read_head(limits: Limits, file: &[u8], part: &mut [u32]) -> LineResult<HeadCounts>
     requires { Bounded limits × (length part.old ≡ 16) }
     ensures { HeadPromise limits file.now result part.new }
 {
@@ -73,7 +75,7 @@ fn read_head(limits: Limits, file: &[u8], part: &mut [u32]) -> Answer<HeadCounts
         trucks: trucks.value as usize,
     };
     let next = trucks.next;
-    Ok(Found { value, next })
+    Ok(LineValue { value, next })
 }
 
 // The instance file, into the words before the stacks.

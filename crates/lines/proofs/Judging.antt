@@ -13,8 +13,8 @@ use Rattle.meaning.specs.Reader.{Reader, line}
 use Rattle.meaning.specs.Table.{counted_words}
 use Rattle.std.specs.Prelude.{Ok, Err, IfOk, IsErrAnd}
 use Rattle.lines.specs.declared.LineRefused.{LineRefused}
-use Rattle.lines.specs.declared.Found.{Found}
-use Rattle.lines.specs.Progress.{Progress, outcome_of, Answer, progress_of, Going, StoredLine, entries_of, HasNumbers, judged_as, judged_entries_as}
+use Rattle.lines.specs.declared.LineValue.{LineValue}
+use Rattle.lines.specs.Progress.{Progress, outcome_of, LineResult, progress_of, Going, StoredLine, entries_of, HasNumbers, judged_as, judged_entries_as}
 use Rattle.lines.specs.Progress.{JudgedBy, StoredPromise, ReadInto, ReadEntries}
 use Rattle.lines.proofs.Follow.{read_meets}
 
@@ -87,13 +87,13 @@ zeros_behind_lem n k out h l e =
 
 -- ---- entries and their count
 -- a line has no more entries than its form allows
-module _ {file : List ℕ} (f : Form) {words : List ℕ → List ℕ} {p : Progress} {found : Found ℕ} {out : List ℕ}
+module _ {file : List ℕ} (f : Form) {words : List ℕ → List ℕ} {p : Progress} {found : LineValue ℕ} {out : List ℕ}
     (read : ReadEntries file (line f) words p (Ok found) out) where
   pub few_counted : found.value ≤ f.most
   few_counted = rw read.count (read_meets file read.into.value f p (Ok found.next) read.into.says tt).most
 
 -- what a `?` hands on is the refusal, and nothing is said of the words then
-pub refused_entries : {file : List ℕ} {reader : Reader (List ℕ)} {words words' : List ℕ → List ℕ} {p : Progress} {e : LineRefused} {out out' : List ℕ} (r : Answer ℕ)
+pub refused_entries : {file : List ℕ} {reader : Reader (List ℕ)} {words words' : List ℕ → List ℕ} {p : Progress} {e : LineRefused} {out out' : List ℕ} (r : LineResult ℕ)
     → IsErrAnd r (λ x. x ≡ e) → ReadEntries file reader words p (Err e) out → ReadEntries file reader words' p r out'
 refused_entries (Ok f) h i = absurd h
 refused_entries {file = file} (Err x) h i = record {
@@ -109,7 +109,7 @@ counted c (w ∷ out) lent h =
     let none : drop (suc (length out) - 1) out ≡ [] = drop_of_length-le out end in
     ap (λ (l : List ℕ). c ∷ l) (rw none (append-nil lent))
 
-pub counted_entries : {file : List ℕ} {reader : Reader (List ℕ)} (n : ℕ) {p : Progress} {found : Found ℕ} {lent : List ℕ} (out : List ℕ)
+pub counted_entries : {file : List ℕ} {reader : Reader (List ℕ)} (n : ℕ) {p : Progress} {found : LineValue ℕ} {lent : List ℕ} (out : List ℕ)
     → 1 ≤ length out → ReadEntries file reader (padded n) p (Ok found) lent
     → ReadEntries file reader (counted_words n) p (Ok found) (set (put_mid 1 (length out - 1) out lent) 0 found.value)
 counted_entries n {found = found} {lent = lent} out h i =

@@ -12,8 +12,8 @@ use Rattle.meaning.specs.Files.{Range, ◌to◌, all_within, fields_line, number
 use Rattle.meaning.specs.Table.{largest_word}
 use Rattle.std.specs.Prelude.{Ok, Err, IsErrAnd}
 use Rattle.lines.specs.declared.LineRefused.{LineRefused}
-use Rattle.lines.specs.declared.Found.{Found}
-use Rattle.lines.specs.Progress.{Key, Progress, outcome_of, reached, resumed, WithinFile, Answer, told, progress_of, StoredLine, judged_as, StoredPromise, ReadInto}
+use Rattle.lines.specs.declared.LineValue.{LineValue}
+use Rattle.lines.specs.Progress.{Key, Progress, outcome_of, reached, resumed, WithinFile, LineResult, told, progress_of, StoredLine, judged_as, StoredPromise, ReadInto}
 use Rattle.lines.proofs.Follow.{past_reader, given_reached, same_reached}
 use Rattle.lines.proofs.Judging.{full_read}
 use Rattle.lines.proofs.Largest.{refuses_number}
@@ -43,13 +43,13 @@ number_says {file} {p} {r = r} {out = out} range h stored room one ok test q e k
     ∙ sym (past_reader file p q read.value (line f) (λ ns. give (get_or ns 0 0)) read.says ∙ given_reached file value q)
 
 -- a refusal that is passed on
-pub told_refused : {A : Type 0} (file : List ℕ) (a : Answer A) (e : LineRefused) → IsErrAnd a (λ x. x ≡ e) → told file a ≡ outcome_of e
+pub told_refused : {A : Type 0} (file : List ℕ) (a : LineResult A) (e : LineRefused) → IsErrAnd a (λ x. x ≡ e) → told file a ≡ outcome_of e
 told_refused file (Ok f) e h = absurd h
 told_refused file (Err x) e h = ap outcome_of h
 
 -- a number that was read, or its line refused, for callers that go on from there. It stands in no words yet
-module _ {file : List ℕ} {R : Reader ℕ} {p : Progress} {r : Answer ℕ} where
-  abbrev pub number_read : {f : Found ℕ} → r ≡ Ok f → told file r ≡ resumed file p R → WithinFile file (progress_of r) → ReadInto file R (λ n. []) p (Ok f.next) []
+module _ {file : List ℕ} {R : Reader ℕ} {p : Progress} {r : LineResult ℕ} where
+  abbrev pub number_read : {f : LineValue ℕ} → r ≡ Ok f → told file r ≡ resumed file p R → WithinFile file (progress_of r) → ReadInto file R (λ n. []) p (Ok f.next) []
   number_read {f} e says within = record { value = f.value; says = rw e at says; holds = λ g. refl; within = rw e at within }
 
   pub number_refused : {e : LineRefused} → r ≡ Err e → told file r ≡ resumed file p R → WithinFile file (progress_of r) → ReadInto file R (λ n. []) p (Err e) []

@@ -9,7 +9,7 @@ use Rattle.lines.specs.declared.Cursor.{Cursor}
 use Rattle.lines.specs.declared.LineRefused.{LineRefused}
 use Rattle.lines.specs.declared.LineRefused.TheVariants.{WrongForm, OutOfRange}
 use Rattle.lines.specs.declared.Stored.{Stored}
-use Rattle.lines.specs.declared.Found.{Found}
+use Rattle.lines.specs.declared.LineValue.{LineValue}
 
 -- a key as text, for the contracts, which cannot name the library's type
 abbrev pub Key : Type 0
@@ -60,16 +60,16 @@ ended_as size (Ok c) = cond (ltb c.at size) (Err (WrongForm c.line)) (Ok c)
 ended_as size (Err e) = Err e
 
 -- ---- a value that was read, with the cursor behind it, or a refusal
-abbrev pub Answer : Type 0 → Type 0
-Answer A = Result (Found A) LineRefused
+abbrev pub LineResult : Type 0 → Type 0
+LineResult A = Result (LineValue A) LineRefused
 
 -- how far the file is read then
-abbrev pub progress_of : {A : Type 0} → Answer A → Progress
+abbrev pub progress_of : {A : Type 0} → LineResult A → Progress
 progress_of (Ok f) = Ok f.next
 progress_of (Err e) = Err e
 
 -- what the meaning's reader finds
-abbrev pub told : {A : Type 0} → List ℕ → Answer A → Outcome A
+abbrev pub told : {A : Type 0} → List ℕ → LineResult A → Outcome A
 told file (Ok f) = reached file f.value (Ok f.next)
 told file (Err e) = outcome_of e
 
@@ -93,7 +93,7 @@ judged_as (Ok s) ok = cond ok (Ok s.next) (Err (OutOfRange s.line))
 judged_as (Err e) ok = Err e
 
 -- the same with the number of entries
-abbrev pub judged_entries_as : StoredLine → Bool → Answer ℕ
+abbrev pub judged_entries_as : StoredLine → Bool → LineResult ℕ
 judged_entries_as (Ok s) ok = cond ok (Ok (record { value = s.count; next = s.next })) (Err (OutOfRange s.line))
 judged_entries_as (Err e) ok = Err e
 
@@ -123,6 +123,6 @@ pub record ReadInto {A : Type 0} (file : List ℕ) (reader : Reader A) (words : 
   pub within : WithinFile file r
 
 -- the same for the entries of a line, with their number
-pub record ReadEntries (file : List ℕ) (reader : Reader (List ℕ)) (words : List ℕ → List ℕ) (p : Progress) (r : Answer ℕ) (out : List ℕ) : Type 0 where
+pub record ReadEntries (file : List ℕ) (reader : Reader (List ℕ)) (words : List ℕ → List ℕ) (p : Progress) (r : LineResult ℕ) (out : List ℕ) : Type 0 where
   pub into : ReadInto file reader words p (progress_of r) out
   pub count : IfOk r (λ f. f.value ≡ length into.value)

@@ -40,13 +40,13 @@ pub const START: Progress = Ok(Cursor { at: 0, line: 0 });
 
 // A value that was read, and the cursor behind its line.
 #[derive(Clone, Copy, PartialEq, Eq)]
-pub struct Found<T> {
+pub struct LineValue<T> {
     pub value: T,
     pub next: Cursor,
 }
 
 // A value that was read, or why its line is refused.
-pub type Answer<T> = Result<Found<T>, LineRefused>;
+pub type LineResult<T> = Result<LineValue<T>, LineRefused>;
 
 // A line whose numbers are stored and not yet judged: how many lines stand before it, the cursor behind it, and how many numbers it has.
 #[derive(Clone, Copy, PartialEq, Eq)]
@@ -105,12 +105,12 @@ pub fn judged(stored: StoredLine, in_range: bool) -> Progress
 }
 
 // The same with the number of entries.
-pub fn judged_entries(stored: StoredLine, in_range: bool) -> Answer<usize>
+pub fn judged_entries(stored: StoredLine, in_range: bool) -> LineResult<usize>
     ensures { result ≡ judged_entries_as stored in_range }
 {
     let next = judged(stored, in_range)?;
     let value = entries(stored);
-    Ok(Found { value, next })
+    Ok(LineValue { value, next })
 }
 
 // The end of the file: a line too many is wrong in form.
@@ -126,7 +126,7 @@ pub fn at_end(file: &[u8], p: Progress) -> Progress
 }
 
 // A line of distinct identifiers, at most as many as there is room for, with zeros behind them.
-pub fn identifiers_line(file: &[u8], p: Progress, key: &[u8], out: &mut [u32]) -> Answer<usize>
+pub fn identifiers_line(file: &[u8], p: Progress, key: &[u8], out: &mut [u32]) -> LineResult<usize>
     requires { WithinFile file.now p }
     ensures says { (k : Key) → bytes k ≡ key.now
         → ReadEntries file.now (line (identifiers_line k (length out.old))) (padded (length out.old)) p result
@@ -140,7 +140,7 @@ pub fn identifiers_line(file: &[u8], p: Progress, key: &[u8], out: &mut [u32]) -
 }
 
 // The same behind the number of entries.
-pub fn counted_line(file: &[u8], p: Progress, key: &[u8], out: &mut [u32]) -> Answer<usize>
+pub fn counted_line(file: &[u8], p: Progress, key: &[u8], out: &mut [u32]) -> LineResult<usize>
     requires { WithinFile file.now p × (1 ≤ length out.old) × (length out.old ≤ 65) }
     ensures { (k : Key) → bytes k ≡ key.now
         → ReadEntries file.now (line (identifiers_line k (length out.old - 1)))
@@ -152,7 +152,13 @@ pub fn counted_line(file: &[u8], p: Progress, key: &[u8], out: &mut [u32]) -> An
 }
 
 // A line with one number of the head, told by its place there.
-pub fn head_line(limits: Limits, file: &[u8], p: Progress, key: &[u8], place: usize) -> Answer<u32>
+pub fn head_line(
+    limits: Limits,
+    file: &[u8],
+    p: Progress,
+    key: &[u8],
+    place: usize,
+) -> LineResult<u32>
     requires { Bounded limits × WithinFile file.now p × (place < 6) }
     ensures says { (k : Key) → bytes k ≡ key.now
         → told file.now result ≡ resumed file.now p (number_line k (head_range limits place)) }
@@ -162,5 +168,5 @@ pub fn head_line(limits: Limits, file: &[u8], p: Progress, key: &[u8], place: us
     let stored = stored_line(file, p, key, 1, &mut number);
     let value = number[0];
     let next = judged(stored, head_number_in_range(limits, place, value))?;
-    Ok(Found { value, next })
+    Ok(LineValue { value, next })
 }

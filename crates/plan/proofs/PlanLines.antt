@@ -9,7 +9,7 @@ use Rattle.meaning.specs.Files.{stack_lines, number_line, ◌to◌}
 use Rattle.std.specs.Prelude.{Ok, Err, IsErrAnd}
 use Rattle.lines.specs.declared.LineRefused.{LineRefused}
 use Rattle.lines.specs.declared.Cursor.{Cursor}
-use Rattle.lines.specs.Progress.{Progress, at_start, ended_as, Answer, ReadInto}
+use Rattle.lines.specs.Progress.{Progress, at_start, ended_as, LineResult, ReadInto}
 use Rattle.lines.proofs.Follow.{onward_reached, past_reader, read_has, stopped, handed_on}
 use Rattle.lines.proofs.Ended.{ended_reached, ended_within, ended_going}
 use Rattle.plan.specs.declared.Counts.{Counts}
@@ -18,7 +18,7 @@ use Rattle.plan.proofs.StackLines.{so_many}
 
 module _ (m : Limits) (counts : Counts) {file part : List ℕ} where
   -- a refusal has no stacks
-  pub plan_refused : {e : LineRefused} (r : Answer ℕ) → IsErrAnd r (λ x. x ≡ e)
+  pub plan_refused : {e : LineRefused} (r : LineResult ℕ) → IsErrAnd r (λ x. x ≡ e)
       → ReadInto file (plan_file m counts.items counts.trucks) (plan_words m) at_start (Err e) part → PlanPromise m counts file r part
   plan_refused (Ok f) h i = absurd h
   plan_refused (Err x) h i = record { into = handed_on h i; stacks = tt }

@@ -11,8 +11,8 @@ ghost use Rattle.lines.specs.Progress.{WithinFile, ReadInto, ReadEntries};
 ghost use Rattle.plan.specs.Words.{BelowLargest, spliced, StackPromise, plan_words, PlanPromise};
 
 use lines::{
-    Answer, Cursor, Found, Progress, START, at_end, entries, head_line, judged, judged_entries,
-    stored_line,
+    Cursor, LineResult, LineValue, Progress, START, at_end, entries, head_line, judged,
+    judged_entries, stored_line,
 };
 use meaning::Limits;
 use ranges::{all_between, is_repeated, stack_in_range};
@@ -52,7 +52,7 @@ fn read_load(
     items: u32,
     loaded: usize,
     loads: &mut [u32],
-) -> Answer<usize>
+) -> LineResult<usize>
     requires { WithinFile file.now (Ok here) × (items < largest_word) × (loaded ≤ length loads.old) × (length loads.old ≤ 65536) }
     ensures read { ReadEntries file.now (line (load_line (length loads.old) items loaded))
         (λ load. spliced loaded load loads.old) (Ok here) result loads.new }
@@ -74,9 +74,9 @@ fn read_stack(
     file: &[u8],
     counts: Counts,
     k: usize,
-    loaded: Found<usize>,
+    loaded: LineValue<usize>,
     part: &mut [u32],
-) -> Answer<usize>
+) -> LineResult<usize>
     requires { Bounded limits × WithinFile file.now (Ok loaded.next) × BelowLargest counts × (k < limits.stacks)
         × (loaded.value ≤ limits.loads) × (length part.old ≡ 8 * limits.stacks + limits.loads) }
     ensures { StackPromise limits counts file.now k loaded result part.old part.new }
@@ -90,7 +90,7 @@ fn read_stack(
     part[row + LOAD_COUNT] = load.value as u32;
     let value = before + load.value;
     let next = load.next;
-    Ok(Found { value, next })
+    Ok(LineValue { value, next })
 }
 
 // So many stacks one after another.
@@ -108,7 +108,7 @@ fn read_stacks(
         part.new }
 {
     clear(part);
-    let mut loaded = Found {
+    let mut loaded = LineValue {
         value: 0,
         next: here,
     };
@@ -120,7 +120,7 @@ fn read_stacks(
 
 // The plan file, for an instance of so many items and trucks, into the words from the stacks on. What is found is how many stacks it
 // announces.
-pub fn read_plan(limits: Limits, file: &[u8], counts: Counts, part: &mut [u32]) -> Answer<u32>
+pub fn read_plan(limits: Limits, file: &[u8], counts: Counts, part: &mut [u32]) -> LineResult<u32>
     requires { Bounded limits × BelowLargest counts × (length part.old ≡ 8 * limits.stacks + limits.loads) }
     ensures { PlanPromise limits counts file.now result part.new }
 {
@@ -128,5 +128,5 @@ pub fn read_plan(limits: Limits, file: &[u8], counts: Counts, part: &mut [u32]) 
     let value = stacks.value;
     let read = read_stacks(limits, file, stacks.next, counts, value as usize, part);
     let next = at_end(file, read)?;
-    Ok(Found { value, next })
+    Ok(LineValue { value, next })
 }

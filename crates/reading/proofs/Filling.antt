@@ -34,7 +34,7 @@ use Rattle.ranges.proofs.Clashes.{clashes_of}
 use Rattle.std.specs.Prelude.{Option as Perhaps, Ok, Err}
 use Rattle.lines.specs.declared.LineRefused.TheVariants.{WrongForm, OutOfRange}
 use Rattle.lines.specs.declared.Cursor.{Cursor}
-use Rattle.lines.specs.declared.Found.{Found}
+use Rattle.lines.specs.declared.LineValue.{LineValue}
 use Rattle.lines.specs.Progress.{Progress, at_start, reached, Answer as Told, progress_of, ReadInto}
 use Rattle.lines.proofs.Follow.{onward_twice}
 use Rattle.instance.specs.Words.{instance_file, instance_words}
@@ -206,7 +206,7 @@ module _ (m : Limits) (i : Instance) (file : List ℕ) (counts : Counts) (r : To
   unfolding after_plan
   plan_range t answer n e k = line_refused m on_plan t answer 8 n (ap (after_plan i) (plan_said (Err (OutOfRange n)) e)) k
 
-  pub plan_readable : (t : List ℕ) (from : ℕ) (f : Found ℕ) → InstanceMeets m i → t ≡ words m i [] → from ≡ stacks_at m → r ≡ Ok f
+  pub plan_readable : (t : List ℕ) (from : ℕ) (f : LineValue ℕ) → InstanceMeets m i → t ≡ words m i [] → from ≡ stacks_at m → r ≡ Ok f
       → FillPromise m on_plan (Ok tt) (set (put_mid from (length t - from) t part) 5 f.value)
   unfolding after_plan
   plan_readable t from found_stacks range w f e =

@@ -13,7 +13,7 @@ use Rattle.meaning.specs.Table.{counted_words, truck_words}
 use Rattle.std.specs.Prelude.{Ok, Err}
 use Rattle.lines.specs.declared.LineRefused.{LineRefused}
 use Rattle.lines.specs.declared.Cursor.{Cursor}
-use Rattle.lines.specs.declared.Found.{Found}
+use Rattle.lines.specs.declared.LineValue.{LineValue}
 use Rattle.lines.specs.Progress.{Progress, ReadInto, ReadEntries}
 use Rattle.lines.proofs.Follow.{behind, behind_last, stopped}
 use Rattle.trucks.specs.Rows.{dock_words}
@@ -65,7 +65,7 @@ module _ {file : List ℕ} {p : Progress} where
         → ReadInto file truck_lines truck_words p (Err e) out
     products_refused r = behind_row (stopped r.into (after_products readRow.value) no_truck)
 
-    module _ {products : Found ℕ} {w₂ : List ℕ} (readProducts : ReadEntries file (line products_line) (counted_words 32) (Ok row) (Ok products) w₂) where
+    module _ {products : LineValue ℕ} {w₂ : List ℕ} (readProducts : ReadEntries file (line products_line) (counted_words 32) (Ok row) (Ok products) w₂) where
       behind_products : {r : Progress} {out : List ℕ} → ReadInto file (after_products readRow.value readProducts.into.value) truck_words (Ok products.next) r out
           → ReadInto file truck_lines truck_words p r out
       behind_products rest = behind_row (behind readProducts.into (after_products readRow.value) rest)
@@ -74,7 +74,7 @@ module _ {file : List ℕ} {p : Progress} where
           → ReadInto file truck_lines truck_words p (Err e) out
       suppliers_refused r = behind_products (stopped r.into (after_suppliers readRow.value readProducts.into.value) no_truck)
 
-      module _ {suppliers : Found ℕ} {w₃ : List ℕ}
+      module _ {suppliers : LineValue ℕ} {w₃ : List ℕ}
           (readSuppliers : ReadEntries file (line suppliers_line) (counted_words 8) (Ok products.next) (Ok suppliers) w₃) where
         behind_suppliers : {r : Progress} {out : List ℕ}
             → ReadInto file (after_suppliers readRow.value readProducts.into.value readSuppliers.into.value) truck_words (Ok suppliers.next) r out
@@ -105,7 +105,7 @@ module _ {file : List ℕ} {p : Progress} where
           plant_docks_refused r = behind_docks (stopped r.into (λ l. give (truck l)) no_truck)
 
           -- the words stand one behind the other
-          pub truck_read : {plant_docks : Found ℕ} {w₅ out : List ℕ}
+          pub truck_read : {plant_docks : LineValue ℕ} {w₅ out : List ℕ}
               → ReadEntries file (line plant_docks_line) (counted_words 8) (Ok docks) (Ok plant_docks) w₅ → Front 160 143 ((((([] ++ w₁) ++ w₂) ++ w₃) ++ w₄) ++ w₅) out
               → ReadInto file truck_lines truck_words p (Ok plant_docks.next) out
           truck_read read front = behind_docks (behind_last read.into truck (λ g.
