@@ -81,14 +81,17 @@ fn parse_number(bytes: &[u8]) -> Option<ParsedNumber>
     let mut n: u64 = 0;
     let mut digits: usize = 0;
     for byte in bytes {
-        match byte {
-            b'0'..=b'9' if digits < MOST_DIGITS => {
-                n = 10 * n + u64::from(*byte - b'0');
-                digits += 1;
+        if !byte.is_ascii_digit() {
+            if *byte == b',' {
+                break;
             }
-            b',' => break,
-            _ => return None,
+            return None;
         }
+        if digits == MOST_DIGITS {
+            return None;
+        }
+        n = 10 * n + u64::from(*byte - b'0');
+        digits += 1;
     }
     if digits == 0 {
         return None;
