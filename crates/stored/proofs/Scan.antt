@@ -15,9 +15,6 @@ pub record Passed {A : Type 0} (test : A → Bool) (l : List A) (k : ℕ) : Type
   pub decides : all test (drop k l) ≡ all test l
 
 module _ {A : Type 0} {test : A → Bool} {l : List A} where
-  pub passed_none : Passed test l 0
-  passed_none = record { upto = omega arith; decides = refl }
-
   -- at the next element, where t tells whether it passes
   module _ {k : ℕ} (h : Passed test l k) (d : A) {a : A} {t : Bool} (m : k < length l) (here : get_or l k d ≡ a) (told : t ≡ test a) where
     next_decides : all test (drop k l) ≡ (t && all test (drop (k + 1) l))
