@@ -15,7 +15,7 @@ use instance::read_instance;
 use lines::Progress;
 use meaning::{Answer, Limits};
 use plan::{Counts, read_plan};
-use ranges::{Clash, lowest_clash};
+use ranges::lowest_clash;
 use table::layout::{HEAD_WORDS, STACK_COUNT};
 use table::{clear, item_count, named_words, small_limits, stacks_at, truck_count};
 
@@ -94,8 +94,8 @@ fn fill_after_instance(limits: Limits, plan: &[u8], words: &mut [u32]) -> FilesR
 {
     let items = item_count(words, limits);
     match lowest_clash(&words[HEAD_WORDS..], items) {
-        Clash::Between(n, first) => refused(CODE_CLASH, n, first),
-        Clash::Nowhere => fill_plan(limits, plan, words),
+        Some(clash) => refused(CODE_CLASH, clash.item, clash.first),
+        None => fill_plan(limits, plan, words),
     }
 }
 

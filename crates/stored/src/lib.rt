@@ -11,8 +11,8 @@ ghost use Rattle.stored.specs.Parts.{stack_stored, entries_of, loaded_by, Loaded
 
 use meaning::Limits;
 use ranges::{
-    Clash, LAST_DAY, all_between, are_identifiers, head_number_in_range, is_repeated,
-    item_in_range, lowest_clash, stack_in_range, truck_in_range,
+    LAST_DAY, all_between, are_identifiers, head_number_in_range, is_repeated, item_in_range,
+    lowest_clash, stack_in_range, truck_in_range,
 };
 use table::layout::{
     BEHIND_DOCKS, DOCK_COUNTS, DOCKS, ITEM_COUNT, ITEM_WORDS, LOAD_COUNT, LOAD_FIRST, PLANT_DOCKS,
@@ -196,10 +196,7 @@ fn instance_stored(table: NamedWords<'_>) -> bool
     if !trucks_stored(table.trucks(), trucks as usize) {
         return false;
     }
-    match lowest_clash(words, items) {
-        Clash::Nowhere => true,
-        Clash::Between(_, _) => false,
-    }
+    lowest_clash(words, items).is_none()
 }
 
 // Whether stacks and loads are those of a plan that can be read.

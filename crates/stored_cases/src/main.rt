@@ -15,7 +15,6 @@ use sentence::print_sentence;
 use std::io;
 use std::io::Write;
 use std::rt::Files;
-use text::ParsedLine;
 
 // Every word becomes this one.
 fn fill(words: &mut [u32], word: u32)
@@ -136,17 +135,13 @@ fn run<W: Write>(out: &mut W, cases: &[u8], files: &[u8], table: &mut [u32]) -> 
     let mut at: usize = 0;
     while at < cases.len() {
         let mut case: [u32; 5] = [0; 5];
-        match text::parse_line(cases, at, b"case=", 5, &mut case) {
-            ParsedLine::Next(next, _) => {
-                if next <= at {
-                    return Ok(());
-                }
-                at = next;
-            }
-            ParsedLine::WrongForm => {
-                return Ok(());
-            }
+        let Some(line) = text::parse_line(cases, at, b"case=", 5, &mut case) else {
+            return Ok(());
+        };
+        if line.next <= at {
+            return Ok(());
         }
+        at = line.next;
         let instance = part(files, case[0], case[1]);
         let plan = part(files, case[2], case[3]);
         run_case(out, instance, plan, case[4], table)?;
