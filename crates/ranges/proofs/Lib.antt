@@ -1,4 +1,3 @@
 pub mod Scan
 pub mod Ends
 pub mod Clashes
-pub mod Firsts

@@ -5,10 +5,11 @@ use mathlib.Core.List.{List, [], ◌∷◌, ◌++◌}
 use Prim.Native.Nat.{ℕ, ◌+◌, ◌-◌, ◌*◌, ◌≤◌, ◌<◌}
 use native.Mathlib.Numerals.{add-one}
 use native.Mathlib.Omega.{arith}
+use borrow.Author.Tests.{eq-eqb, ne_eqb}
 use lib.Dec.{eqb}
 use lib.ListN.{length, get_or, take, drop, length-drop, drop_of_length-le}
-use lib.Seq.{take_all}
-use Rattle.meaning.specs.Lists.{all, any, between, listed, distinct}
+use lib.Seq.{take_all, drop-cons}
+use Rattle.meaning.specs.Lists.{all, any, between, listed, distinct, order_from}
 use Rattle.meaning.specs.Files.{all_within}
 use Rattle.meaning.proofs.Lists.{drop_next}
 use Rattle.std.proofs.lemmas.List.{take_more}
@@ -74,3 +75,13 @@ module _ (part : List ℕ) (number : ℕ) where
       → repeated || eqb number (get_or part (8 * k) 0) ≡ listed number (row_numbers (k + 1) part)
   unfolding any row_numbers
   repeated_next k repeated e = rw (add-one, or_comm repeated (eqb number (get_or part (8 * k) 0))) (ap (λ b. eqb number (get_or part (8 * k) 0) || b) e)
+
+-- ---- the place of a number in a list, from 1, with i numbers passed: the next is the one, or the next is another
+module _ (n : ℕ) (l : List ℕ) (i : ℕ) (h : i < length l) where
+  pub order_found : get_or l i 0 ≡ n → order_from (i + 1) n (drop i l) ≡ i + 1
+  unfolding order_from
+  order_found e = rw (drop-cons l i 0 h, eq-eqb n (get_or l i 0) (sym e)) refl
+
+  pub order_passed : (get_or l i 0 ≡ n → ⊥) → order_from (i + 1) n (drop i l) ≡ order_from (i + 1 + 1) n (drop (i + 1) l)
+  unfolding order_from
+  order_passed e = rw (drop-cons l i 0 h, ne_eqb n (get_or l i 0) (λ q. e (sym q)), add-one (i + 1), add-one i) refl

@@ -15,9 +15,6 @@ pub record Passed {A : Type 0} (test : A → Bool) (l : List A) (k : ℕ) : Type
   pub decides : all test (drop k l) ≡ all test l
 
 module _ {A : Type 0} {test : A → Bool} {l : List A} where
-  pub passed_none : Passed test l 0
-  passed_none = record { upto = omega arith; decides = refl }
-
   -- at the next element, where t tells whether it passes
   module _ {k : ℕ} (h : Passed test l k) (d : A) {a : A} {t : Bool} (m : k < length l) (here : get_or l k d ≡ a) (told : t ≡ test a) where
     next_decides : all test (drop k l) ≡ (t && all test (drop (k + 1) l))
@@ -69,16 +66,17 @@ module _ (w later : ℕ) (row behind : List ℕ) {left : ℕ} {rest : List ℕ} 
         ∙ ap₂ (λ (a b : List ℕ). test a && all test (chunks w later b)) (take_at row behind w wide) (drop_at row behind w wide)
         ∙ ap (λ (b : Bool). b && all test (chunks w later behind)) (sym told)
 
-    pub row_passed : t ≡ true → all test (chunks w later behind) ≡ all test (chunks w left rest)
-    row_passed e = sym (row_decides ∙ ap (λ (b : Bool). b && all test (chunks w later behind)) e)
+    module _ {whole : Bool} (decides : all test (chunks w left rest) ≡ whole) where
+      pub row_passed : t ≡ true → all test (chunks w later behind) ≡ whole
+      row_passed e = sym (row_decides ∙ ap (λ (b : Bool). b && all test (chunks w later behind)) e) ∙ decides
 
-    pub row_failed : t ≡ false → all test (chunks w left rest) ≡ false
-    row_failed e = row_decides ∙ ap (λ (b : Bool). b && all test (chunks w later behind)) e
+      pub row_failed : t ≡ false → whole ≡ false
+      row_failed e = sym decides ∙ row_decides ∙ ap (λ (b : Bool). b && all test (chunks w later behind)) e
 
 -- none is left
-pub rows_end : (test : List ℕ → Bool) (w : ℕ) {left : ℕ} (rest : List ℕ) → left ≡ 0 → all test (chunks w left rest) ≡ true
+pub rows_end : (test : List ℕ → Bool) (w left : ℕ) (rest : List ℕ) {whole : Bool} → all test (chunks w left rest) ≡ whole → left ≡ 0 → whole ≡ true
 unfolding all chunks
-rows_end test w rest none = ap (λ (k : ℕ). all test (chunks w k rest)) none
+rows_end test w left rest decides none = sym decides ∙ ap (λ (k : ℕ). all test (chunks w k rest)) none
 
 -- a row that is asked for where some are left is there
 pub rows_there : (w left : ℕ) {size : ℕ} (rest : List ℕ) → size ≡ w → w * left ≤ length rest → (0 < left → length rest < size) → left ≡ 0

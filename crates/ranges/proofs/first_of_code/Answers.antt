@@ -5,7 +5,7 @@ use native.Mathlib.Omega.{arith}
 use Rattle.meaning.specs.Lists.{order_in}
 use Rattle.meaning.specs.Model.{IS}
 use Rattle.ranges.specs.Clashes.{item_at}
-use Rattle.ranges.proofs.Firsts.{order_found, order_passed}
+use Rattle.ranges.proofs.Scan.{order_found, order_passed}
 use Rattle.ranges.proofs.Clashes.{codes, codes_counted, code_there}
 use Rattle.ranges.proofs.first_of_code.Goals as goal
 
