@@ -35,7 +35,7 @@ use Rattle.std.specs.Prelude.{Option as Perhaps, Ok, Err}
 use Rattle.lines.specs.declared.LineRefused.TheVariants.{WrongForm, OutOfRange}
 use Rattle.lines.specs.declared.Cursor.{Cursor}
 use Rattle.lines.specs.declared.LineValue.{LineValue}
-use Rattle.lines.specs.Progress.{Progress, at_start, reached, Answer as Told, progress_of, ReadInto}
+use Rattle.lines.specs.Progress.{Progress, at_start, reached, LineResult, progress_of, ReadInto}
 use Rattle.lines.proofs.Follow.{onward_twice}
 use Rattle.instance.specs.Words.{instance_file, instance_words}
 use Rattle.plan.specs.declared.Counts.{Counts}
@@ -190,13 +190,13 @@ module _ (m : Limits) (i : Instance) (plan : List ℕ) (o : Option Place) (t : L
   no_clash_lem r e h = rw (← e) h
 
 -- ---- by how far the plan is read
-module _ (m : Limits) (i : Instance) (file : List ℕ) (counts : Counts) (r : Told ℕ) (part : List ℕ) (a : counts.items ≡ length i.items)
+module _ (m : Limits) (i : Instance) (file : List ℕ) (counts : Counts) (r : LineResult ℕ) (part : List ℕ) (a : counts.items ≡ length i.items)
     (b : counts.trucks ≡ length i.trucks) (h : PlanPromise m counts file r part) where
   abbrev on_plan : Reading
   on_plan = after_plan i (whole_file (plan_lines m i) file)
 
-  plan_said : (q : Told ℕ) → r ≡ q → whole_file (plan_lines m i) file ≡ reached file h.into.value (progress_of q)
-  plan_said q e = sym (h.into.says ∙ rw (a, b) (plan_file_lem m i file)) ∙ ap (λ (x : Told ℕ). reached file h.into.value (progress_of x)) e
+  plan_said : (q : LineResult ℕ) → r ≡ q → whole_file (plan_lines m i) file ≡ reached file h.into.value (progress_of q)
+  plan_said q e = sym (h.into.says ∙ rw (a, b) (plan_file_lem m i file)) ∙ ap (λ (x : LineResult ℕ). reached file h.into.value (progress_of x)) e
 
   pub plan_form : (t : List ℕ) (answer : FilesRead) (n : ℕ) → r ≡ Err (WrongForm n) → answer ≡ refused_with 7 (n + 1) 0 → FillPromise m on_plan answer t
   unfolding after_plan
