@@ -2,5 +2,5 @@
 use Rattle.std.proofs.Common.{length, ◌-◌}
 use Rattle.stored_cases.proofs.run.Given as goal
 
-abbrev pub decreases-loop-next : goal.decreases-loop-next
-decreases-loop-next g l = length l.cases - l.at
+abbrev pub decreases-loop-parsed : goal.decreases-loop-parsed
+decreases-loop-parsed g l = length l.cases - l.at
