@@ -1,16 +1,16 @@
 -- The digits of a number: how many they are, and how they are worked out from the last on.
 use mathlib.Core.Path.{◌≡◌, refl, sym, ap, ◌∙◌}
-use mathlib.Core.Logic.{◌⊎◌, inl, inr, ⊎_elim}
+use mathlib.Core.Logic.{⊎_elim}
 use mathlib.Core.List.{List, [], ◌∷◌}
 use Prim.Native.Nat.{ℕ, zero, suc, ◌+◌, ◌-◌, ◌*◌, ◌/◌, ◌%◌, ◌^◌, ◌≤◌, ◌<◌}
-use native.Mathlib.Nat.{pow-suc, pow-le-pow_right}
+use native.Mathlib.Nat.{pow-suc, pow-le-pow_right, eq-or-lt_of_le}
 use native.Mathlib.Omega.{arith}
-use borrow.Author.Tests.{le-ltb, lt-ltb, ltb-true, ltb-false}
-use lib.Dec.{lit<, ltb}
+use borrow.Author.Tests.{le-ltb, lt-ltb}
+use lib.Dec.{lit<}
 use lib.ListN.{length, set, drop, length-set, length-drop}
 use lib.Seq.{drop-cons, drop-length, drop-set-lt, get_or-set_same}
 use Rattle.meaning.specs.Print.{digits_onto, digits}
-use Rattle.meaning.proofs.Tests.{by_less, decide}
+use Rattle.meaning.proofs.Tests.{by_less}
 
 module _ (most n : ℕ) (tail : List ℕ) where
   -- a number below 10 is its one digit
@@ -37,12 +37,35 @@ long_digits (suc k) (suc most) n tail fuel low high =
     rw (last_digit (suc most) n tail (omega arith))
     (long_digits k most (n / 10) ((48 + n % 10) ∷ tail) (omega arith) (λ h. omega arith) below ∙ omega arith)
 
--- the highest power of ten in a number gives the count
-pub counted_digits : {n k : ℕ} → 10 ^ k ≤ n → n < 10 * 10 ^ k → k < 10 → (k + 1 ≡ length (digits n)) × (k + 1 ≤ 10)
-counted_digits {n} {k} low high few = omega (arith, long_digits k 9 n [] (omega arith) (λ h. low) (rw pow-suc (omega arith)))
+-- the state of the count: `power` is the least power of ten that was not compared yet
+pub record Counting (n count power : ℕ) : Type 0 where
+  pub more : ℕ
+  pub counted : count ≡ suc more
+  pub few : more ≤ 9
+  pub reached : power ≡ 10 ^ suc more
+  pub passed : 1 ≤ more → 10 ^ more ≤ n
 
-pub no_power : {n : ℕ} → n ≡ 0 → (1 ≡ length (digits n)) × (1 ≤ 10)
-no_power {n} e = (sym (long_digits 0 9 n [] (omega arith) (λ h. absurd (omega arith)) (omega arith)), omega arith)
+pub counting_start : {n : ℕ} → Counting n 1 10
+counting_start = record { more = 0; counted = refl; few = omega arith; reached = refl; passed = λ h. absurd (omega arith) }
+
+module _ {n count power : ℕ} (s : Counting n count power) where
+  pub counting_next : n < 4294967296 → power ≤ n → Counting n (count + 1) (power * 10)
+  counting_next small h =
+      let k = s.more in
+      let wide : k ≡ 9 → 10000000000 ≤ n = λ e. rw (s.reached, e) at h in
+      record {
+        more = suc k;
+        counted = omega (arith, s.counted);
+        few = ⊎_elim (λ e. absurd (omega (arith, wide e))) (λ l. l) (eq-or-lt_of_le s.few);
+        reached = rw s.reached (sym (pow-suc 10 (suc k)));
+        passed = λ l. rw s.reached at h;
+      }
+
+  pub counting_end : n < power → (count ≡ length (digits n)) × (count ≤ 10)
+  counting_end h =
+      let k = s.more in
+      let long = long_digits k 9 n [] s.few s.passed (rw s.reached at h) in
+      omega (arith, s.counted, s.few, long)
 
 -- ---- the digits from the last on
 -- there is a digit
@@ -63,7 +86,7 @@ pub record Placing (n : ℕ) (out : List ℕ) (rest at : ℕ) : Type 0 where
   pub long : length out ≡ length (digits n)
   pub says : digits_onto (suc most) rest (drop (suc at) out) ≡ digits n
 
-placing_start : (n : ℕ) (out : List ℕ) → n < 4294967296 → length out ≡ length (digits n) → Placing n out n (length out - 1)
+pub placing_start : (n : ℕ) (out : List ℕ) → n < 4294967296 → length out ≡ length (digits n) → Placing n out n (length out - 1)
 placing_start n out small long =
     let some = some_digits n in
     let last : suc (length out - 1) ≡ length out = omega arith in
@@ -90,14 +113,14 @@ module _ {n : ℕ} {out : List ℕ} {rest at : ℕ} (s : Placing n out rest at) 
     next_says m e = rw (← e) (sym (last_digit s.most rest (drop (suc at) out) large)) ∙ s.says
 
     -- there is a place before this one
-    placing_before : 1 ≤ at
+    pub placing_before : 1 ≤ at
     unfolding tail
     placing_before =
         let t = tenth s.most s.small in
         let same = ap length (next_says t.0 t.1) in
         omega (arith, same, s.long, some_digit t.0 (rest / 10) tail, length-drop (suc at) out, s.inside)
 
-    placing_next : Placing n (set out at (48 + rest % 10)) (rest / 10) (at - 1)
+    pub placing_next : Placing n (set out at (48 + rest % 10)) (rest / 10) (at - 1)
     unfolding tail
     placing_next =
         let t = tenth s.most s.small in
@@ -111,39 +134,8 @@ module _ {n : ℕ} {out : List ℕ} {rest at : ℕ} (s : Placing n out rest at) 
           says = rw (place, stored (48 + rest % 10)) (next_says t.0 t.1);
         }
 
-  -- the first digit stands at the first place
-  placing_first : rest < 10 → at ≡ 0
-  placing_first h =
-      let one = one_digit s.most rest (drop (suc at) out) h in
-      omega (arith, ap length one, ap length s.says, s.long, length-drop (suc at) out, s.inside)
-
-  placing_end : rest < 10 → set out at (48 + rest) ≡ digits n
+  pub placing_end : rest < 10 → set out at (48 + rest) ≡ digits n
   placing_end h =
-      ap (λ (k : ℕ). drop k (set out at (48 + rest))) (sym (placing_first h))
-      ∙ stored (48 + rest) ∙ sym (one_digit s.most rest (drop (suc at) out) h) ∙ s.says
-
--- ---- as many places as the number has digits, written from the last down: `left` of them are still to be written
-pub record Placed (n : ℕ) (out : List ℕ) (rest left : ℕ) : Type 0 where
-  pub long : length out ≡ length (digits n)
-  pub state : ((left ≡ 0) × (out ≡ digits n)) ⊎ ((1 ≤ left) × Placing n out rest (left - 1))
-
-pub placed_start : (n : ℕ) (out : List ℕ) → n < 4294967296 → length out ≡ length (digits n) → Placed n out n (length out)
-placed_start n out small long = record { long = long; state = inr (omega (arith, some_digits n), placing_start n out small long) }
-
-module _ {n : ℕ} {out : List ℕ} {rest left : ℕ} (s : Placed n out rest left) where
-  pub placed_next : 1 ≤ left → Placed n (set out (left - 1) (48 + rest % 10)) (rest / 10) (left - 1)
-  placed_next more = record {
-    long = length-set out (left - 1) (48 + rest % 10) ∙ s.long;
-    state = ⊎_elim (λ none. absurd (omega (arith, none.0))) (λ some. step some.1) s.state;
-  }
-    where
-      step : Placing n out rest (left - 1)
-          → ((left - 1 ≡ 0) × (set out (left - 1) (48 + rest % 10) ≡ digits n))
-          ⊎ ((1 ≤ left - 1) × Placing n (set out (left - 1) (48 + rest % 10)) (rest / 10) (left - 1 - 1))
-      step p = ⊎_elim (λ e. inl (last (ltb-true rest 10 e))) (λ e. inr (other (ltb-false rest 10 e))) (decide (ltb rest 10))
-        where
-          last : rest < 10 → (left - 1 ≡ 0) × (set out (left - 1) (48 + rest % 10) ≡ digits n)
-          last h = let same : rest % 10 ≡ rest = omega arith in (placing_first p h, rw same (placing_end p h))
-
-          other : 10 ≤ rest → (1 ≤ left - 1) × Placing n (set out (left - 1) (48 + rest % 10)) (rest / 10) (left - 1 - 1)
-          other h = (placing_before p h, placing_next p h)
+      let one = one_digit s.most rest (drop (suc at) out) h in
+      let first : at ≡ 0 = omega (arith, ap length one, ap length s.says, s.long, length-drop (suc at) out, s.inside) in
+      ap (λ (k : ℕ). drop k (set out at (48 + rest))) (sym first) ∙ stored (48 + rest) ∙ sym one ∙ s.says
