@@ -13,8 +13,8 @@ use meaning::Answer;
 use reading::read_files;
 use table::small_limits;
 
-// The verdict on the table that readable files fill. The arrays are scratch: for each stack a key and the 16 words of its row; a word for
-// each item or stack.
+// The verdict on the table that readable files fill. The arrays are scratch, for there is no heap: for each stack a key and the 16 words of
+// its row; a word for each item or stack.
 fn verdict(t: &[u32]) -> Answer
     requires { Filled small t.now }
     ensures { result ≡ verdict_on (instance_in small t.now) (stacks_in small t.now) }
