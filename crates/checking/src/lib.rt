@@ -13,8 +13,8 @@ use meaning::Answer;
 use reading::read_files;
 use table::{NamedWords, Table, small_limits};
 
-// The verdict on the table that readable files fill. The arrays are scratch: for each stack a key and the 16 words of its row; a word for
-// each item or stack.
+// The verdict on the table that readable files fill. The arrays are scratch, for there is no heap: for each stack a key and the 16 words of
+// its row; a word for each item or stack.
 fn verdict(words: &[u32]) -> Answer
     requires { Filled small words.now }
     ensures { result ≡ verdict_on (instance_in small words.now) (stacks_in small words.now) }

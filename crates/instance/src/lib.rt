@@ -30,7 +30,8 @@ fn read_item(file: &[u8], here: Cursor, part: &mut [u32]) -> Progress
     judged(stored, item_in_range(part, LAST_DAY))
 }
 
-// The items one after another.
+// The items one after another. The loop is that of `read_trucks` over other rows; one loop for both would take a trait that says each row's
+// reader, words and width, and is longer than the two.
 fn read_items(file: &[u8], here: Cursor, count: usize, part: &mut [u32]) -> Progress
     requires { WithinFile file.now (Ok here) × (16 * count ≤ length part.old) }
     ensures { ReadInto file.now (times count (line item_line)) (rows (length part.old) (λ ns. ns)) (Ok here) result

@@ -1,5 +1,5 @@
 // One line after another: each is stored, then judged by its form's ranges. Every function takes the answer so far and returns the next
-// one; a refusal that comes in goes out unchanged, so callers need no branches.
+// one; a refusal that comes in goes out unchanged.
 #![tactic(auto)]
 
 ghost use Rattle.std.specs.Prelude.{◌≡◌, ◌-◌, ◌≤◌, ◌<◌, length, IfOk};

@@ -58,6 +58,7 @@ fn read_load(
         (λ load. spliced loaded load loads.old) (Ok here) result loads.new }
     ensures within { IfOk result (λ f. loaded + f.value ≤ length loads.old) }
 {
+    // A line may have more entries than the loads have room left for, so it is stored apart first. There is no heap.
     let mut load: [u32; 64] = [0; 64];
     let stored = stored_line(file, Ok(here), b"load=", 1, &mut load);
     let count = entries(stored);

@@ -2,9 +2,6 @@
 use Rattle.checking.proofs.Promise.{judged, declined}
 use Rattle.checking.proofs.check.Goals as goal
 
-pub verdict-requires : goal.verdict-requires
-verdict-requires c = c.read_files.ensures.filled c.in-Ok.is
-
 pub returns-in-Err : goal.returns-in-Err
 returns-in-Err c = declined _ _ _ _ _ _ _ c.read_files.ensures c.in-Err.is
 
