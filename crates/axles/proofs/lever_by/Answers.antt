@@ -3,15 +3,6 @@ use Rattle.axles.specs.Weights.{lever_by}
 use Rattle.axles.proofs.Amounts as amounts
 use Rattle.axles.proofs.lever_by.Goals as goal
 
-pub overflow_sub-result : goal.overflow_sub-result
-overflow_sub-result c = (amounts.before c.requires.0 c.requires.1 c.requires.2 c.requires.3).fits
-
-pub overflow_sub-result-2 : goal.overflow_sub-result-2
-overflow_sub-result-2 c = (amounts.distance c.requires.0 c.requires.1 c.requires.2 c.requires.3).fits
-
-pub overflow_mul-result : goal.overflow_mul-result
-overflow_mul-result c = (amounts.lever c.requires.0 c.requires.1 c.requires.2 c.requires.3).fits
-
 pub returns : goal.returns
 unfolding lever_by
 returns c = (amounts.lever c.requires.0 c.requires.1 c.requires.2 c.requires.3).same

@@ -4,23 +4,8 @@ use Rattle.axles.proofs.Signed.{at_most}
 use Rattle.axles.proofs.Amounts as amounts
 use Rattle.axles.proofs.bounded.Axles.rear_holds.Goals as goal
 
-pub overflow_mul-result : goal.overflow_mul-result
-overflow_mul-result c = (amounts.harness_twice c.args.self.bounded).fits
-
-pub overflow_add-result : goal.overflow_add-result
-overflow_add-result c = (amounts.loaded c.args.self.bounded c.requires.1).fits
-
-pub overflow_mul-result-2 : goal.overflow_mul-result-2
-overflow_mul-result-2 c = (amounts.turned c.args.self.bounded c.requires.1).fits
-
 pub overflow_sub-result : goal.overflow_sub-result
 overflow_sub-result c = (amounts.rear c.args.self.bounded c.requires.1 c.ranges.h c.requires.0).fits
-
-pub overflow_mul-result-3 : goal.overflow_mul-result-3
-overflow_mul-result-3 c = (amounts.harness_twice c.args.self.bounded).fits
-
-pub overflow_mul-result-4 : goal.overflow_mul-result-4
-overflow_mul-result-4 c = (amounts.rear_most c.args.self.bounded).fits
 
 pub returns : goal.returns
 unfolding rear_holds

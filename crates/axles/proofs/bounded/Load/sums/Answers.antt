@@ -5,15 +5,12 @@ use mir.Syntax.{w64}
 use mir.Val.{SFits, to_z, of_z}
 use mir.Facts.{to_z-of_z}
 use Rattle.axles.proofs.Signed.{in_range_lem}
-use Rattle.axles.proofs.Places.{sums_start, sums_next, sums_end, weight_size, levers_size}
+use Rattle.axles.proofs.Places.{sums_start, sums_next, weight_size, levers_size}
 use borrow.Author.Rules.{rules}
 use Rattle.axles.proofs.bounded.Load.sums.Goals as goal
 
 pub loop-k-init : goal.loop-k-init
 loop-k-init c = sums_start c.args.self.bounded.ordered
-
-pub term-term-requires : goal.term-term-requires
-term-term-requires c = (omega (arith, c.loop-k.invariant.weight.upto), c.requires)
 
 pub overflow_add-weight : goal.overflow_add-weight
 overflow_add-weight c =
@@ -34,6 +31,3 @@ loop-k-preserved c =
     let fits : SFits w64 (to_z w64 (of_z w64 c.term-term.result.levers) +ℤ to_z w64 c.loop-k.levers-bits) =
     rw m.is (in_range_lem _ (levers_size c.args.self.bounded c.args.departure _ m.upto c.args.twice c.requires) tt) in
     rw (to_z-of_z {w = w64} {z = to_z w64 (of_z w64 c.term-term.result.levers) +ℤ to_z w64 c.loop-k.levers-bits} fits) more
-
-pub returns : goal.returns
-returns c = sums_end c.loop-k.invariant c.loop-k-test.false
