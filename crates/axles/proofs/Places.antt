@@ -111,9 +111,6 @@ module _ {rows : List ℕ} {departure twice start end : ℕ} where
         → SumsFrom rows departure twice start (k - 1) end (weight + w) (to_z w64 (of_z w64 lever) +ℤ z)
     sums_next fits l ew el = sums_more l ew (stored fits el)
 
-    pub sums_end : k ≤ start → (w ≡ weight_on rows departure (places_from start end)) × (z ≡ levers_on rows departure twice (places_from start end))
-    sums_end l = (sum_end h.weight l, sum_end h.levers l)
-
 -- ---- how large the sums are
 distance_size : (a b e most : ℕ) → a ≤ most → b + e ≤ most → nat_abs (pos a -ℤ pos b -ℤ pos e) ≤ most
 distance_size a b e most h k =
