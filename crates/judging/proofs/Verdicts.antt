@@ -8,7 +8,6 @@ use native.Mathlib.Decide.{dec_le}
 use native.Mathlib.Nat.{eq-or-lt_of_le}
 use native.Mathlib.Omega.{arith}
 use Rattle.std.specs.Prelude.{Option, Some, None}
-use Rattle.std.specs.Option.{is_some}
 use Rattle.meaning.specs.declared.Place.{Place}
 use Rattle.meaning.specs.declared.Answer.{Answer}
 use Rattle.meaning.specs.Rules.{loading_rules}
@@ -44,18 +43,6 @@ found_none None e = refl
 found_some : (f : Option Place) → nothing f ≡ false → Some (place_in f) ≡ f
 found_some (Some p) e = refl
 found_some None e = absurd (true≢false e)
-
-pub told_nothing : (f : Option Place) {none : Bool} → is_some f ≡ not none → none ≡ nothing f
-told_nothing (Some p) {none} = yes none
-  where
-    yes : (none : Bool) → true ≡ not none → none ≡ false
-    yes true e = absurd (true≢false e)
-    yes false e = refl
-told_nothing None {none} = no none
-  where
-    no : (none : Bool) → false ≡ not none → none ≡ true
-    no true e = refl
-    no false e = absurd (true≢false (sym e))
 
 -- a rule by another name
 pub told_of : (f : Findings) {rule same : Rule} {kept : Bool} → kept ≡ kept_by rule f → rule ≡ same → kept ≡ kept_by same f
@@ -154,9 +141,6 @@ pub record KeptTo (f : Findings) (upto rank : ℕ) : Type 0 where
   pub kept : (k : ℕ) → k < rank → kept_by (rule_at k) f ≡ true
 
 module _ {f : Findings} {upto : ℕ} where
-  pub kept_start : KeptTo f upto 0
-  kept_start = record { within = omega arith; kept = λ k below. absurd (omega arith) }
-
   module _ {rank : ℕ} (h : KeptTo f upto rank) where
     pub kept_on : {kept : Bool} → rank < upto → kept ≡ kept_by (rule_at rank) f → kept ≡ true → KeptTo f upto (rank + 1)
     kept_on {kept} more e q = record { within = omega arith; kept = λ k below. go k below (dec_le (suc k) rank) }
@@ -165,14 +149,8 @@ module _ {f : Findings} {upto : ℕ} where
         go k below (yes less) = h.kept k less
         go k below (no past) = let same : k ≡ rank = omega arith in rw same (sym e ∙ q)
 
-    pub kept_until : {kept : Bool} → kept ≡ kept_by (rule_at rank) f → kept ≡ false → FirstRank f upto rank
-    kept_until {kept} e q = record { within = h.within; kept = h.kept; broken = λ more. sym e ∙ q }
-
     pub kept_whole : upto ≤ rank → FirstRank f upto upto
     kept_whole past = record { within = omega arith; kept = λ k below. h.kept k (omega arith); broken = λ more. absurd (omega arith) }
-
-  pub all_kept_to : all_kept f ≡ true → FirstRank f upto upto
-  all_kept_to e = record { within = omega arith; kept = λ k below. all_told f e (rule_at k); broken = λ more. absurd (omega arith) }
 
 -- ---- the first broken rule on single stacks
 pub upto_rules : {places : Rule → List Place} (b : Option Breach) → FirstOf places b → rank_of b ≤ rule_count

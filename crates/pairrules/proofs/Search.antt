@@ -28,7 +28,7 @@ use Rattle.rules.specs.declared.PairRule.{PairRule}
 use Rattle.rules.specs.declared.PairRule.TheVariants.{SecondPair, Overlap, Order}
 use Rattle.rules.specs.LoadingRules.{pair_test}
 use Rattle.pairrules.specs.PairRules.{SortedRows, place_at, whole_plan, BlockOf, first_partner}
-use Rattle.pairrules.proofs.Places.{Upto, upto_start, upto_more, upto_kept, same_told}
+use Rattle.pairrules.proofs.Places.{Upto, upto_more}
 use Rattle.pairrules.proofs.Sorted.{place_within, place_there, word_rising}
 use Rattle.pairrules.proofs.Pairs.{single_turned, disjoint_turned}
 use Rattle.pairrules.proofs.Partners.{Broken, pair_listed, listed_pair, stack_in_lem, stack_place_lem, one_stack_lem, number_upto, inside_a, block_used, used_block, some_partners, partner_differs}
@@ -51,10 +51,6 @@ pub record PartnersPassed (rule : PairRule) (m : Limits) (t rows order : List �
   pub around : BlockOf rows a (length (stacks_in m t)) on
   pub passed : Upto (λ j. pair_test rule (instance_in m t) (manifest_at (stacks_in m t) a) (manifest_at (stacks_in m t) j) ≡ true)
       (first_partner rule a on.start) on.end b
-
-pub stacks_start : {rule : PairRule} {m : Limits} {t rows order : List ℕ} → HoldsRows m t rows → SortedRows rows (whole_plan (length (stacks_in m t))) 1 order
-    → StacksPassed rule m t rows order 0
-stacks_start held sorted = record { held = held; sorted = sorted; passed = upto_start (omega arith) }
 
 -- ---- the stacks by number
 module _ {rule : PairRule} {m : Limits} {t rows order : List ℕ} {k : ℕ} (stacks : StacksPassed rule m t rows order k) where
@@ -101,12 +97,6 @@ module _ {rule : PairRule} {m : Limits} {t rows order : List ℕ} {k : ℕ} (sta
       let w = listed_pair (pair_test rule) i p q m in
       let z = numbered_there w.0 w.2.first in
       true≢false (sym (come w.0 z.0 (omega (arith, z.1)) z.2 w.1 w.2.second w.2.used w.2.differ) ∙ w.2.breaks))
-
-  pub partners_start : {count a b : ℕ} {on : Block} → count ≡ length p → k < count → a ≡ get_or order k 0 → BlockOf rows a count on
-      → b ≡ first_partner rule a on.start → PartnersPassed rule m t rows order k a on b
-  partners_start {on = on} e up is around from =
-      let whole = rw e at around in
-      record { inside = omega arith; is = is; around = whole; passed = rw from (upto_start (some_partners stacks.held whole rule).1) }
 
   -- ---- one stack with its partners
   module _ {a b : ℕ} {on : Block} (l : PartnersPassed rule m t rows order k a on b) where
@@ -162,10 +152,6 @@ module _ {rule : PairRule} {m : Limits} {t rows order : List ℕ} {k : ℕ} (sta
         }
 
     module _ (up : b < on.end) {kept : Bool} (asks : kept ≡ pair_test rule i s (manifest_at p b)) where
-      pub partners_more : kept ≡ true → PartnersPassed rule m t rows order k a on (b + 1)
-      partners_more e =
-          record { inside = l.inside; is = l.is; around = l.around; passed = upto_kept l.passed up (same_told asks) e }
-
       -- the first pair that breaks the rule is the lowest
       module _ (e : kept ≡ false) where
         found : Broken (pair_test rule i) p s (manifest_at p b)

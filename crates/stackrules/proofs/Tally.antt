@@ -58,19 +58,12 @@ pub record Counting (load before : List ℕ) (j : ℕ) (times : List ℕ) : Type
       → get_or times (n - 1) 0 + length (filter (eqb n) (drop j load)) ≡ length (filter (eqb n) load) + get_or before (n - 1) 0
 
 module _ {load before : List ℕ} where
-  pub counting_none : Counting load before 0 before
-  counting_none = record { room = refl; counts = λ n from up_to. omega arith }
-
   module _ {j : ℕ} {times : List ℕ} (able : Countable load before) (h : Counting load before j times) (more : j < length load) where
     abbrev n : ℕ
     n = get_or load j 0
 
     split : drop j load ≡ n ∷ drop (j + 1) load
     split = drop_next load j 0 more
-
-    -- the next entry
-    pub entry_some : 1 ≤ n
-    entry_some = (able.entries j more).0
 
     module _ (at : ℕ) (place : at + 1 ≡ n) where
       pub count_inside : at < length times

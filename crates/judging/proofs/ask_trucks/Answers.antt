@@ -7,23 +7,10 @@ use Rattle.judging.proofs.ask_trucks.Goals as goal
 pub loop-end-init : goal.loop-end-init
 loop-end-init c = (told_start c.stack_count-end.ensures.0, refl, refl)
 
-pub truck_start-start-requires : goal.truck_start-start-requires
-truck_start-start-requires c = (c.loop-end-test.true, omega (arith, c.loop-end.invariant.0.counted.within, c.args.manifest.holds.room))
-
 pub ask_truck-requires : goal.ask_truck-requires
 ask_truck-requires c =
     let one = one_truck c.args.manifest.holds c.loop-end.invariant.0 c.truck_start-start.ensures in
     (one.0, omega (arith, c.loop-end.invariant.1, c.requires.0), omega (arith, c.loop-end.invariant.2, c.requires.1))
-
-pub with_truck-used-requires : goal.with_truck-used-requires
-with_truck-used-requires c =
-    let here = (one_truck c.args.manifest.holds c.loop-end.invariant.0 c.truck_start-start.ensures).0 in
-    let few = few_stacks c.args.manifest.holds.filled in
-    let counted = c.loop-end.invariant.0.counted in
-    (omega (arith, here.some, here.within), omega (arith, few, counted.within), omega (arith, few, counted.within, counted.few))
-
-pub loop-end-smaller : goal.loop-end-smaller
-loop-end-smaller c = c.truck_start-start.ensures.some
 
 pub loop-end-preserved : goal.loop-end-preserved
 loop-end-preserved c =

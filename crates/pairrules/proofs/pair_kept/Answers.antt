@@ -3,9 +3,6 @@ use mathlib.Core.Path.{◌∙◌}
 use Rattle.pairrules.proofs.Reading.{disjoint_is, order_is}
 use Rattle.pairrules.proofs.pair_kept.Goals as goal
 
-pub returns-in-SecondPair : goal.returns-in-SecondPair
-returns-in-SecondPair c = rw c.in-SecondPair.is c.is_single_pair.ensures
-
 pub returns-in-Overlap : goal.returns-in-Overlap
 returns-in-Overlap c =
     rw c.in-Overlap.is

@@ -22,8 +22,3 @@ loop-s-preserved c =
       omega arith,
       tally_more p (omega arith) (rw back c.loop-s.invariant.2) (omega arith) c.load.ensures.0 c.count_load.ensures,
     )
-
-pub returns : goal.returns
-returns c =
-    let none : c.loop-s.s ≡ 0 = omega arith in
-    rw none at c.loop-s.invariant.2

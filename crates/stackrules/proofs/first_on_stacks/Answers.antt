@@ -1,6 +1,5 @@
 -- `stackrules::first_on_stacks`: the breach so far is that of the stacks so far, in the end of all.
 use Prim.Native.Nat.{◌-◌}
-use borrow.Author.Rules.{rules}
 use Rattle.meaning.specs.Table.{stacks_in}
 use Rattle.table.specs.Filled.{no_stack}
 use Rattle.manifest.proofs.Order.{manifest_length, manifest_at_lem}
@@ -9,9 +8,6 @@ use Rattle.stackrules.proofs.first_on_stacks.Goals as goal
 
 pub loop-k-init : goal.loop-k-init
 loop-k-init c = from_none (rw (manifest_length (stacks_in c.args.manifest.table.named.limits c.args.manifest.table.named.words.now)) c.stack_count-k.ensures.0)
-
-pub stack_breach-requires : goal.stack_breach-requires
-stack_breach-requires c = search (rules, manifest_known)
 
 pub loop-k-preserved : goal.loop-k-preserved
 loop-k-preserved c =

@@ -1,15 +1,11 @@
 -- `stackrules::too_many_place`: the test compares the count and the limit of rule 20.
 use mathlib.Core.Path.{refl}
-use native.Mathlib.Omega.{arith}
 use borrow.Author.Rules.{rules}
 use Rattle.stackrules.proofs.Stacks.{stack_there, too_many_is}
 use Rattle.stackrules.proofs.too_many_place.Goals as goal
 
 pub load-items-requires : goal.load-items-requires
 load-items-requires c = search (rules, stack_there)
-
-pub item_field-requires : goal.item_field-requires
-item_field-requires c = (c.load-items.ensures.1.entries 0 c.load-items.ensures.1.some, omega arith)
 
 pub returns : goal.returns
 returns c =

@@ -1,10 +1,6 @@
 -- No stack passed so far is on, so the departure counts exactly where one of those left is.
-use mathlib.Core.Path.{refl}
 use Rattle.axles.proofs.Places.{none_on, on_here, none_here}
 use Rattle.axles.proofs.bounded.Load.departure_counts.Goals as goal
-
-pub loop-k-init : goal.loop-k-init
-loop-k-init c = record { rest = refl }
 
 pub returns-then-is_on : goal.returns-then-is_on
 returns-then-is_on c = on_here c.loop-k.invariant c.is_on.ensures c.loop-k-test.true c.if-is_on.true

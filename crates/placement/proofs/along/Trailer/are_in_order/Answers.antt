@@ -1,12 +1,8 @@
 -- `Trailer::are_in_order`: each stack is asked with those before it, and with those behind it keeps the order anyway.
-use native.Mathlib.Omega.{arith}
 use Rattle.meaning.proofs.Tests.{iff_trans}
-use Rattle.pairrules.proofs.Places.{upto_start, upto_kept, upto_broken, upto_all}
+use Rattle.pairrules.proofs.Places.{upto_kept, upto_broken, upto_all}
 use Rattle.placement.proofs.Walk.{ordered_two}
 use Rattle.placement.proofs.along.Trailer.are_in_order.Goals as goal
-
-pub loop-k-init : goal.loop-k-init
-loop-k-init c = upto_start (omega arith)
 
 pub returns-then-not-is_in_order : goal.returns-then-not-is_in_order
 returns-then-not-is_in_order c = iff_trans (upto_broken c.loop-k.invariant c.loop-k-test.true c.is_in_order.ensures c.if-not-is_in_order.true) (ordered_two c.args.self.sorted)

@@ -1,21 +1,12 @@
 -- `Trailer::is_in_order`: every stack before it along the trailer is asked.
 use native.Mathlib.Omega.{arith}
-use Rattle.placement.proofs.Trailer.{in_order_start, in_order_all, both_room, in_order_broken, in_order_more}
+use Rattle.placement.proofs.Trailer.{both_room, in_order_more}
 use Rattle.placement.proofs.along.Trailer.is_in_order.Goals as goal
-
-pub loop-j-init : goal.loop-j-init
-loop-j-init c = in_order_start c.args.self.sorted c.requires c.place-place.ensures
 
 pub in_loading_order-requires : goal.in_loading_order-requires
 in_loading_order-requires c =
     let both = both_room c.loop-j.invariant c.loop-j-test.true c.place.ensures in
     (omega (arith, both), omega (arith, both))
 
-pub returns-then-not-in_loading_order : goal.returns-then-not-in_loading_order
-returns-then-not-in_loading_order c = in_order_broken c.loop-j.invariant c.loop-j-test.true c.place.ensures c.in_loading_order.ensures c.if-not-in_loading_order.true
-
 pub loop-j-preserved : goal.loop-j-preserved
 loop-j-preserved c = in_order_more c.loop-j.invariant c.loop-j-test.true c.place.ensures c.in_loading_order.ensures c.if-not-in_loading_order.false
-
-pub returns : goal.returns
-returns c = in_order_all c.loop-j.invariant c.loop-j-test.false

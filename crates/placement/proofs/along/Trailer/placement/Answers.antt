@@ -7,17 +7,8 @@ use Rattle.placement.proofs.along.Trailer.placement.Goals as goal
 pub loop-k-init : goal.loop-k-init
 loop-k-init c = placed_start c.args.self.sorted
 
-pub place-requires : goal.place-requires
-place-requires c = next_inside c.loop-k.invariant c.loop-k-test.true
-
 pub row_word-number-requires : goal.row_word-number-requires
 row_word-number-requires c = (rw c.place.ensures (nth_room c.loop-k.invariant.held _ (next_inside c.loop-k.invariant c.loop-k-test.true)), omega arith)
-
-pub is_braced-requires : goal.is_braced-requires
-is_braced-requires c = next_inside c.loop-k.invariant c.loop-k-test.true
-
-pub is_clear-apart-requires : goal.is_clear-apart-requires
-is_clear-apart-requires c = next_inside c.loop-k.invariant c.loop-k-test.true
 
 pub loop-k-preserved-then-apart : goal.loop-k-preserved-then-apart
 loop-k-preserved-then-apart c =
