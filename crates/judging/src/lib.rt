@@ -188,7 +188,8 @@ fn with_truck(used: UsedTrucks, manifest: Manifest<'_>, start: usize) -> UsedTru
     }
 }
 
-// The used trucks, from the last to the first, each asked once for all that is asked. The keys and the places along the trailer are scratch.
+// The used trucks, from the last to the first, each asked once for all that is asked. The walk goes from block to block, so that no range
+// counts it. The keys and the places along the trailer are scratch.
 fn ask_trucks(
     asked: Asked,
     manifest: Manifest<'_>,

@@ -12,7 +12,7 @@ use std::io::Write;
 use std::rt::Files;
 use std::{env, io};
 
-// Prints the bad line of a verdict that names one.
+// Prints the bad line of a verdict that names one. An answer has the verdict's number, as C is handed it.
 fn print_bad_line<W: Write>(
     out: &mut W,
     instance: &[u8],
