@@ -2,10 +2,11 @@
 use mathlib.Core.Path.{◌≡◌, refl, sym, ap, ap₂, ◌∙◌}
 use mathlib.Core.Bool.{Bool, not, ◌&&◌}
 use mathlib.Core.List.{List, map, flat_map, append-nil}
-use Prim.Native.Nat.{ℕ, ◌-◌, ◌≤◌, ◌<◌}
+use Prim.Native.Nat.{ℕ, ◌+◌, ◌-◌, ◌≤◌, ◌<◌}
 use native.Mathlib.Omega.{arith}
 use lib.Dec.{leb}
 use lib.ListN.{length, get_or}
+use Rattle.std.specs.Prelude.{Option, None}
 use Rattle.meaning.specs.declared.Limits.{Limits}
 use Rattle.meaning.specs.declared.Place.{Place}
 use Rattle.meaning.specs.Lists.{only_if, up_from}
@@ -15,9 +16,7 @@ use Rattle.meaning.specs.Measures.{UsedTruck, used_by, stacks_at_departure, depa
 use Rattle.meaning.specs.Rules.{truck_places, departure_places, counts, within_load_limit, middle_axle_holds, rear_axle_holds}
 use Rattle.meaning.specs.Table.{instance_in, stacks_in}
 use Rattle.meaning.proofs.Lists.{every_filter, flat_map_agree, length_up_from, up_from_at}
-use Rattle.search.specs.declared.Found.{Found}
-use Rattle.search.specs.declared.Found.TheVariants.{Nothing}
-use Rattle.search.specs.Lowest.{lowest_in, lower_found}
+use Rattle.search.specs.Lowest.{lowest_in, place_cmp, lower_by}
 use Rattle.search.proofs.Lowest.{LowestFrom, from_start, from_more, from_end}
 use Rattle.manifest.specs.Manifest.{manifest_at, block, HoldsRows, OneTruck}
 use Rattle.manifest.specs.declared.Block.{Block}
@@ -36,21 +35,21 @@ unfoldable pub exceeded_at : Test → List ℕ → Block → AxleData → UsedTr
 exceeded_at holds rows on a u departure = only_if (exceeds holds rows on a departure) (place u.truck u.copy departure)
 
 -- ---- from the last departure down: `found` is the lowest place of those after the current one
-pub record AxleFrom (holds : Test) (rows : List ℕ) (on : Block) (a : AxleData) (u : UsedTruck) (last departure : ℕ) (found : Found) : Type 0 where
+pub record AxleFrom (holds : Test) (rows : List ℕ) (on : Block) (a : AxleData) (u : UsedTruck) (last departure : ℕ) (found : Option Place) : Type 0 where
   pub lowest : LowestFrom (exceeded_at holds rows on a u) (up_from 1 last) departure found
 
 module _ {holds : Test} {rows : List ℕ} {on : Block} {a : AxleData} {u : UsedTruck} {last : ℕ} where
-  pub axle_start : AxleFrom holds rows on a u last last Nothing
+  pub axle_start : AxleFrom holds rows on a u last last None
   axle_start = record { lowest = from_start (sym (length_up_from 1 last)) }
 
   -- one departure more
-  pub axle_more : {departure : ℕ} {found here lower : Found} {exceeded : Bool} → AxleFrom holds rows on a u last departure found → 0 < departure
-      → exceeded ≡ exceeds holds rows on a departure → here ≡ lowest_in (only_if exceeded (place u.truck u.copy departure))
-      → lower ≡ lower_found here found → AxleFrom holds rows on a u last (departure - 1) lower
+  pub axle_more : {departure : ℕ} {found here lower : Option Place} {exceeded : Bool} → AxleFrom holds rows on a u last departure found → 0 < departure
+      → exceeded ≡ exceeds holds rows on a (departure - 1 + 1) → here ≡ lowest_in (only_if exceeded (place u.truck u.copy (departure - 1 + 1)))
+      → lower ≡ lower_by place_cmp here found → AxleFrom holds rows on a u last (departure - 1) lower
   unfolding exceeded_at
   axle_more {departure} h some e ep el =
       let inside : departure - 1 < last = omega (arith, h.lowest.down.upto, length_up_from 1 last) in
-      let there : departure ≡ get_or (up_from 1 last) (departure - 1) 0 = omega (arith, up_from_at 1 last (departure - 1) 0 inside) in
+      let there : departure - 1 + 1 ≡ get_or (up_from 1 last) (departure - 1) 0 = omega (arith, up_from_at 1 last (departure - 1) 0 inside) in
       record { lowest = from_more 0 h.lowest some there (rw e at ep) el }
 
 -- ---- the rules, as the rows of the used truck have them
@@ -113,7 +112,7 @@ module _ {m : Limits} {t rows : List ℕ} (h : HoldsRows m t rows) {on : Block} 
   rear_same places inside = rw (levers_are h truck places inside, weights_are h places inside) refl
 
   -- all three, of what was read
-  pub lowest_are : {a : AxleData} {u : UsedTruck} {last departure weight limit : ℕ} {overload middle rear : Found} → u ≡ used
+  pub lowest_are : {a : AxleData} {u : UsedTruck} {last departure weight limit : ℕ} {overload middle rear : Option Place} → u ≡ used
       → a ≡ axle_data (truck_numbered i u.truck) → last ≡ length (truck_numbered i u.truck).suppliers
       → weight ≡ weight_of rows (places_of on) → limit ≡ TMm (truck_numbered i u.truck)
       → overload ≡ lowest_in (only_if (not (leb weight limit)) (place u.truck u.copy 0))

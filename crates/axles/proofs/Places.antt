@@ -5,6 +5,8 @@ use mathlib.Core.List.{List, [], ◌∷◌}
 use Prim.Native.Nat.{ℕ, suc, ◌+◌, ◌-◌, ◌*◌, ◌≤◌, ◌<◌}
 use native.Mathlib.Nat.{le_refl}
 use native.Mathlib.Omega.{arith}
+use mir.Syntax.{w64}
+use mir.Val.{SFits, to_z, of_z}
 use lib.IntN.{ℤ, pos, nat_abs, ◌+ℤ◌, ◌-ℤ◌, +ℤ_idl}
 use Rattle.meaning.specs.Lists.{any, filter, up_from, sum, sumℤ, Every}
 use Rattle.meaning.proofs.Lists.{every_reads, every_filter, in_up_from}
@@ -13,7 +15,7 @@ use Rattle.meaning.proofs.Ring.{less, same_less, ring}
 use Rattle.manifest.specs.Manifest.{row_word}
 use Rattle.manifest.specs.declared.Block.{Block}
 use Rattle.axles.specs.Weights.{places_from, is_on, weight_at, weight_of, lever_by, lever_at, levers_of, BoundedRow, BoundedRows}
-use Rattle.axles.proofs.Signed.{less_size, plus_size, times_size}
+use Rattle.axles.proofs.Signed.{stored, less_size, plus_size, times_size}
 
 -- ---- one place more, in front of the others
 places_none : {k end : ℕ} → end ≤ k → places_from k end ≡ []
@@ -103,8 +105,11 @@ module _ {rows : List ℕ} {departure twice start end : ℕ} where
           levers = sum_more h.levers l (ap₂ ◌+ℤ◌ el h.levers.is ∙ sumℤ_if (lever_at rows twice) b (k - 1) on);
         }
 
-    pub sums_end : k ≤ start → (w ≡ weight_on rows departure (places_from start end)) × (z ≡ levers_on rows departure twice (places_from start end))
-    sums_end l = (sum_end h.weight l, sum_end h.levers l)
+    -- the same of a lever that the code keeps in 64 bits
+    pub sums_next : {weight : ℕ} {lever : ℤ} → SFits w64 lever → start < k → weight ≡ cond (is_on rows departure (k - 1)) (weight_at rows (k - 1)) 0
+        → lever ≡ cond (is_on rows departure (k - 1)) (lever_at rows twice (k - 1)) (pos 0)
+        → SumsFrom rows departure twice start (k - 1) end (weight + w) (to_z w64 (of_z w64 lever) +ℤ z)
+    sums_next fits l ew el = sums_more l ew (stored fits el)
 
 -- ---- how large the sums are
 distance_size : (a b e most : ℕ) → a ≤ most → b + e ≤ most → nat_abs (pos a -ℤ pos b -ℤ pos e) ≤ most

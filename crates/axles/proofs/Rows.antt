@@ -10,7 +10,7 @@ use lib.Seq.{drop-cons}
 use Rattle.meaning.specs.declared.Limits.{Limits}
 use Rattle.meaning.specs.Lists.{any, filter, up_from, between, sum, sumℤ, Every}
 use Rattle.meaning.specs.Model.{Instance, Truck, Stack, truck_numbered}
-use Rattle.meaning.specs.Measures.{supplier_order, sm, lever}
+use Rattle.meaning.specs.Measures.{used_by, supplier_order, sm, lever}
 use Rattle.meaning.specs.Rules.{counts}
 use Rattle.meaning.specs.Table.{instance_in, stacks_in}
 use Rattle.meaning.proofs.Lists.{every_reads, in_up_from}
@@ -19,10 +19,10 @@ use Rattle.meaning.proofs.Permute.{sum_perm}
 use Rattle.table.specs.Filled.{Filled, TruckNumber, no_stack}
 use Rattle.table.proofs.Access.{stacks_in_lem, truck_in_lem, per_entry_most, stack_weight}
 use Rattle.table.proofs.Bounds.{truck_most_lem}
-use Rattle.manifest.specs.Manifest.{manifest_at, in_manifest, HoldsRows, OneTruck}
+use Rattle.manifest.specs.Manifest.{manifest_at, in_manifest, row_word, HoldsRows, OneTruck}
 use Rattle.manifest.specs.declared.Block.{Block}
 use Rattle.manifest.proofs.Order.{manifest_length, manifest_at_lem, manifest_perm}
-use Rattle.manifest.proofs.Reading.{word_is, word_most}
+use Rattle.manifest.proofs.Reading.{word_is, word_most, truck_is}
 use Rattle.axles.specs.Weights.{places_from, is_on, weight_of, lever_by, lever_at, levers_of, BoundedRows, axle_data, BoundedAxles}
 
 -- ---- lists of places
@@ -122,3 +122,10 @@ module _ {m : Limits} {t rows : List ℕ} (h : HoldsRows m t rows) where
               let is = weights_are (places_from k on.end) (from_inside k one.within) ∙ ap (sum (sm i)) (sym (block_places p k n (omega (arith, one.within)))) in
               omega (arith, is, plan_weight, sum_perm (sm i) (manifest_perm p), sum_drop (sm i) k (in_manifest p), sum_take (sm i) n (drop k (in_manifest p)));
         }
+
+    -- the first row has the truck and the copy of all
+    pub truck_known : {n : ℕ} → n ≡ row_word rows on.start 2 → (n ≡ (used_by (manifest_at p on.start)).truck) × TruckNumber i n
+    truck_known e = rw e (truck_is h on.start (omega (arith, one.some, one.within)))
+
+    pub copy_known : {n : ℕ} → n ≡ row_word rows on.start 3 → n ≡ (used_by (manifest_at p on.start)).copy
+    copy_known e = e ∙ word_is h on.start (omega (arith, one.some, one.within)) 3 (omega arith)

@@ -2,120 +2,23 @@
 // Levers are signed: a stack whose middle lies behind the rear axle counts negative. Nothing is divided.
 #![tactic(auto)]
 
-ghost use Rattle.std.specs.Prelude.{◌≡◌, cond, ◌+◌, ◌*◌, ◌≤◌, pos, nat_abs, length};
+ghost use Rattle.std.specs.Prelude.{◌≡◌, cond, ◌+◌, ◌*◌, ◌≤◌, ◌<◌, pos, nat_abs};
 ghost use Rattle.meaning.specs.Lists.{any};
 ghost use Rattle.meaning.specs.Model.{truck_numbered};
-ghost use Rattle.meaning.specs.Table.{instance_in, stacks_in};
-ghost use Rattle.table.specs.Filled.{Filled, TruckNumber};
-ghost use Rattle.manifest.specs.Manifest.{block, HoldsRows, OneTruck};
-ghost use Rattle.axles.specs.Weights.{places_of, is_on, on_at, weight_at, lever_at, weight_of, levers_of, lever_by, BoundedRow, BoundedRows};
-ghost use Rattle.axles.specs.Weights.{axle_data, BoundedAxles, moment_by, middle_holds, rear_holds, middle_under, rear_under, exceeds, LowestPlaces};
+ghost use Rattle.table.specs.Filled.{TruckNumber};
+ghost use Rattle.manifest.specs.Manifest.{block, OneTruck};
+ghost use Rattle.axles.specs.Weights.{places_of, is_on, on_at, weight_at, lever_at, weight_of, levers_of, lever_by};
+ghost use Rattle.axles.specs.Weights.{axle_data, moment_by, middle_holds, rear_holds, middle_under, rear_under, exceeds, LowestPlaces};
+ghost use Rattle.table.specs.Held.{instance_of, stacks_of};
 
-use manifest::{Block, row, row_word};
-use meaning::Limits;
-use search::{Found, lower_of, place_if};
+use bounded::{Axles, Load};
+use manifest::{Block, Manifest, row, row_word};
+use meaning::Place;
+use search::{lower_of, place_if};
+use table::Table;
 use table::fields::{CJFC, CJFH, CJFM, CM, EJCR, EJEH, EJHR, EM, EMMM, EMMR, LOAD_LIMIT};
-use table::{suppliers, truck_field};
 
-// ---- the stacks that are on at a departure
-
-// Whether the stack at place k is on at a departure: its supplier is one of the first so many.
-fn is_on(rows: &[u32], departure: u32, k: usize) -> bool
-    requires { 16 * k + 16 ≤ length rows.now }
-    ensures { result ≡ is_on rows.now departure k }
-{
-    let order = row_word(rows, k, row::SUPPLIER_ORDER);
-    (1 <= order) & (order <= departure)
-}
-
-// Whether a departure counts, which it does where a stack is on.
-fn departure_counts(rows: &[u32], on: Block, departure: u32) -> bool
-    requires { 16 * on.end ≤ length rows.now }
-    ensures { result ≡ any (is_on rows.now departure) (places_of on) }
-{
-    let end = on.end;
-    let mut k = on.start;
-    while k < end {
-        if is_on(rows, departure, k) {
-            return true;
-        }
-        k += 1;
-    }
-    false
-}
-
-// ---- weights and levers
-
-// The weight of all stacks of a used truck, whatever their supplier.
-fn total_weight(rows: &[u32], on: Block) -> u64
-    requires { BoundedRows rows.now on }
-    ensures { result ≡ weight_of rows.now (places_of on) }
-{
-    let start = on.start;
-    let mut weight: u64 = 0;
-    let mut k = on.end;
-    while start < k {
-        k -= 1;
-        weight = (row_word(rows, k, row::WEIGHT) as u64) + weight;
-    }
-    weight
-}
-
-// A stack's weight times twice the distance of its middle before the rear axle; `twice` is 2A.
-fn lever_by(weight: u32, x: u32, xe: u32, twice: u32) -> i64
-    requires { (weight ≤ 3200000) × (x ≤ 20000) × (xe ≤ 40000) × (twice ≤ 80000) }
-    ensures { result ≡ lever_by weight x xe twice }
-{
-    (weight as i64) * ((twice as i64) - (x as i64) - (xe as i64))
-}
-
-// What stacks bring together: their weight and their levers.
-#[derive(Clone, Copy)]
-struct Sums {
-    weight: u64,
-    levers: i64,
-}
-
-// The terms of the stack at place k in both sums: nothing where it is not on. Its lever is worked out first, so that the sum does not
-// branch: which stacks are on has no pattern that a processor could foresee.
-fn term_of(rows: &[u32], departure: u32, twice: u32, k: usize) -> Sums
-    requires { (16 * k + 16 ≤ length rows.now) × BoundedRow rows.now k × (twice ≤ 80000) }
-    ensures { (result.weight ≡ cond (is_on rows.now departure k) (weight_at rows.now k) 0)
-        × (result.levers ≡ cond (is_on rows.now departure k) (lever_at rows.now twice k) (pos 0)) }
-{
-    let weight = row_word(rows, k, row::WEIGHT);
-    let x = row_word(rows, k, row::X);
-    let levers = lever_by(weight, x, row_word(rows, k, row::XE), twice);
-    if is_on(rows, departure, k) {
-        return Sums {
-            weight: weight as u64,
-            levers,
-        };
-    }
-    Sums {
-        weight: 0,
-        levers: 0,
-    }
-}
-
-// Both sums of the stacks that are on at a departure.
-fn sums_on(rows: &[u32], on: Block, departure: u32, twice: u32) -> Sums
-    requires { BoundedRows rows.now on × (twice ≤ 80000) }
-    ensures { (result.weight ≡ weight_of rows.now (on_at rows.now departure on))
-        × (result.levers ≡ levers_of rows.now twice (on_at rows.now departure on)) }
-{
-    let start = on.start;
-    let mut weight: u64 = 0;
-    let mut levers: i64 = 0;
-    let mut k = on.end;
-    while start < k {
-        k -= 1;
-        let term = term_of(rows, departure, twice, k);
-        weight = term.weight + weight;
-        levers = term.levers + levers;
-    }
-    Sums { weight, levers }
-}
+mod bounded;
 
 // ---- the axles
 
@@ -135,58 +38,60 @@ struct AxleData {
 }
 
 // Of a truck. It is read once for a used truck, and not at each departure.
-fn read_axle_data(t: &[u32], limits: Limits, truck: u32) -> AxleData
-    requires { Filled limits t.now × TruckNumber (instance_in limits t.now) truck }
-    ensures { result ≡ axle_data (truck_numbered (instance_in limits t.now) truck) }
+fn read_axle_data(table: Table<'_>, truck: u32) -> AxleData
+    requires { TruckNumber (instance_of table) truck }
+    ensures { result ≡ axle_data (truck_numbered (instance_of table.entry) truck) }
 {
-    let ejhr = truck_field(t, limits, truck, EJHR);
+    let ejhr = table.truck_field(truck, EJHR);
     AxleData {
-        cm: truck_field(t, limits, truck, CM),
-        cjfm: truck_field(t, limits, truck, CJFM),
-        cjfc: truck_field(t, limits, truck, CJFC),
-        cjfh: truck_field(t, limits, truck, CJFH),
-        em: truck_field(t, limits, truck, EM),
+        cm: table.truck_field(truck, CM),
+        cjfm: table.truck_field(truck, CJFM),
+        cjfc: table.truck_field(truck, CJFC),
+        cjfh: table.truck_field(truck, CJFH),
+        em: table.truck_field(truck, EM),
         ejhr,
-        ejcr: truck_field(t, limits, truck, EJCR),
-        emmr: truck_field(t, limits, truck, EMMR),
-        emmm: truck_field(t, limits, truck, EMMM),
-        twice: 2 * (truck_field(t, limits, truck, EJEH) + ejhr),
+        ejcr: table.truck_field(truck, EJCR),
+        emmr: table.truck_field(truck, EMMR),
+        emmm: table.truck_field(truck, EMMM),
+        twice: 2 * (table.truck_field(truck, EJEH) + ejhr),
     }
 }
 
-// H: the levers of the stacks that are on, and of the trailer.
-fn moment(levers: i64, axles: AxleData) -> i64
-    requires { (nat_abs levers ≤ 262144000000000) × BoundedAxles axles }
-    ensures { (result ≡ moment_by levers axles) × (nat_abs result ≤ 262146000000000) }
-{
-    let em = axles.em as i64;
-    let ejcr = axles.ejcr as i64;
-    levers + 2 * em * ejcr
-}
+impl Axles {
+    // H: the levers of the stacks that are on, and of the trailer.
+    fn moment(self, levers: i64) -> i64
+        requires { nat_abs levers ≤ 262144000000000 }
+        ensures { (result ≡ moment_by levers self.line) × (nat_abs result ≤ 262146000000000) }
+    {
+        let em = self.line.em as i64;
+        let ejcr = self.line.ejcr as i64;
+        levers + 2 * em * ejcr
+    }
 
-// 27 middle axle: what tractor, trailer and load bring to it by their levers is within its limit.
-fn middle_holds(h: i64, axles: AxleData) -> bool
-    requires { (nat_abs h ≤ 262146000000000) × BoundedAxles axles }
-    ensures { result ≡ middle_holds h axles }
-{
-    let ejhr = axles.ejhr as i64;
-    let cm = axles.cm as i64;
-    let cjfc = axles.cjfc as i64;
-    let cjfh = axles.cjfh as i64;
-    let cjfm = axles.cjfm as i64;
-    let emmm = axles.emmm as i64;
-    2 * ejhr * cm * cjfc + h * cjfh <= 2 * ejhr * cjfm * emmm
-}
+    // 27 middle axle: what tractor, trailer and load bring to it by their levers is within its limit.
+    fn middle_holds(self, h: i64) -> bool
+        requires { nat_abs h ≤ 262146000000000 }
+        ensures { result ≡ middle_holds h self.line }
+    {
+        let ejhr = self.line.ejhr as i64;
+        let cm = self.line.cm as i64;
+        let cjfc = self.line.cjfc as i64;
+        let cjfh = self.line.cjfh as i64;
+        let cjfm = self.line.cjfm as i64;
+        let emmm = self.line.emmm as i64;
+        2 * ejhr * cm * cjfc + h * cjfh <= 2 * ejhr * cjfm * emmm
+    }
 
-// 28 rear axle: what the harness does not bear of trailer and load is within its limit.
-fn rear_holds(h: i64, weight: u64, axles: AxleData) -> bool
-    requires { (nat_abs h ≤ 262146000000000) × (weight ≤ 3276800000) × BoundedAxles axles }
-    ensures { result ≡ rear_holds h weight axles }
-{
-    let ejhr = axles.ejhr as i64;
-    let em = axles.em as i64;
-    let emmr = axles.emmr as i64;
-    2 * ejhr * ((weight as i64) + em) - h <= 2 * ejhr * emmr
+    // 28 rear axle: what the harness does not bear of trailer and load is within its limit.
+    fn rear_holds(self, h: i64, weight: u64) -> bool
+        requires { (nat_abs h ≤ 262146000000000) × (weight ≤ 3276800000) }
+        ensures { result ≡ rear_holds h weight self.line }
+    {
+        let ejhr = self.line.ejhr as i64;
+        let em = self.line.em as i64;
+        let emmr = self.line.emmr as i64;
+        2 * ejhr * ((weight as i64) + em) - h <= 2 * ejhr * emmr
+    }
 }
 
 // Which axles are exceeded.
@@ -196,26 +101,116 @@ struct Exceeded {
     rear: bool, // 28
 }
 
-// W2: which axles do not hold at a departure that counts. Most axles hold, so whether it counts is asked only where one does not.
-fn exceeded_axles(rows: &[u32], on: Block, departure: u32, axles: AxleData) -> Exceeded
-    requires { BoundedRows rows.now on × BoundedAxles axles }
-    ensures { (result.middle ≡ exceeds middle_under rows.now on axles departure)
-        × (result.rear ≡ exceeds rear_under rows.now on axles departure) }
+// ---- weights and levers
+
+// A stack's weight times twice the distance of its middle before the rear axle; `twice` is 2A.
+fn lever_by(weight: u32, x: u32, xe: u32, twice: u32) -> i64
+    requires { (weight ≤ 3200000) × (x ≤ 20000) × (xe ≤ 40000) × (twice ≤ 80000) }
+    ensures { result ≡ lever_by weight x xe twice }
 {
-    let sums = sums_on(rows, on, departure, axles.twice);
-    let h = moment(sums.levers, axles);
-    let middle = middle_holds(h, axles);
-    let rear = rear_holds(h, sums.weight, axles);
-    if middle & rear {
-        return Exceeded {
-            middle: false,
-            rear: false,
-        };
+    (weight as i64) * ((twice as i64) - (x as i64) - (xe as i64))
+}
+
+// What stacks bring together: their weight and their levers.
+#[derive(Clone, Copy)]
+struct Sums {
+    weight: u64,
+    levers: i64,
+}
+
+// ---- the stacks of a used truck
+
+impl<'a> Load<'a> {
+    // Whether the stack at place k is on at a departure: its supplier is one of the first so many.
+    fn is_on(self, departure: u32, k: usize) -> bool
+        requires { k < self.on.end }
+        ensures { result ≡ is_on self.entry.rows.now departure k }
+    {
+        let order = row_word(self.rows, k, row::SUPPLIER_ORDER);
+        (1 <= order) & (order <= departure)
     }
-    let counts = departure_counts(rows, on, departure);
-    Exceeded {
-        middle: counts & !middle,
-        rear: counts & !rear,
+
+    // Whether a departure counts, which it does where a stack is on.
+    fn departure_counts(self, departure: u32) -> bool
+        ensures { result ≡ any (is_on self.entry.rows.now departure) (places_of self.entry.on) }
+    {
+        for k in self.on.start..self.on.end {
+            if self.is_on(departure, k) {
+                return true;
+            }
+        }
+        false
+    }
+
+    // The weight of all stacks, whatever their supplier.
+    fn total_weight(self) -> u64
+        ensures { result ≡ weight_of self.entry.rows.now (places_of self.entry.on) }
+    {
+        let mut weight: u64 = 0;
+        for k in (self.on.start..self.on.end).rev() {
+            weight = (row_word(self.rows, k, row::WEIGHT) as u64) + weight;
+        }
+        weight
+    }
+
+    // The terms of the stack at place k in both sums: nothing where it is not on. Its lever is worked out first, so that the sum does not
+    // branch: which stacks are on has no pattern that a processor could foresee.
+    fn term(self, departure: u32, twice: u32, k: usize) -> Sums
+        requires { (k < self.on.end) × (twice ≤ 80000) }
+        ensures { (result.weight ≡ cond (is_on self.entry.rows.now departure k) (weight_at self.entry.rows.now k) 0)
+            × (result.levers ≡ cond (is_on self.entry.rows.now departure k) (lever_at self.entry.rows.now twice k) (pos 0)) }
+    {
+        let weight = row_word(self.rows, k, row::WEIGHT);
+        let x = row_word(self.rows, k, row::X);
+        let levers = lever_by(weight, x, row_word(self.rows, k, row::XE), twice);
+        if self.is_on(departure, k) {
+            return Sums {
+                weight: weight as u64,
+                levers,
+            };
+        }
+        Sums {
+            weight: 0,
+            levers: 0,
+        }
+    }
+
+    // Both sums of the stacks that are on at a departure.
+    fn sums(self, departure: u32, twice: u32) -> Sums
+        requires { twice ≤ 80000 }
+        ensures { (result.weight ≡ weight_of self.entry.rows.now (on_at self.entry.rows.now departure self.entry.on))
+            × (result.levers ≡ levers_of self.entry.rows.now twice (on_at self.entry.rows.now departure self.entry.on)) }
+    {
+        let mut weight: u64 = 0;
+        let mut levers: i64 = 0;
+        for k in (self.on.start..self.on.end).rev() {
+            let term = self.term(departure, twice, k);
+            weight = term.weight + weight;
+            levers = term.levers + levers;
+        }
+        Sums { weight, levers }
+    }
+
+    // W2: which axles do not hold at a departure that counts. Most axles hold, so whether it counts is asked only where one does not.
+    fn exceeded(self, departure: u32, axles: Axles) -> Exceeded
+        ensures { (result.middle ≡ exceeds middle_under self.entry.rows.now self.entry.on axles.line departure)
+            × (result.rear ≡ exceeds rear_under self.entry.rows.now self.entry.on axles.line departure) }
+    {
+        let sums = self.sums(departure, axles.line.twice);
+        let h = axles.moment(sums.levers);
+        let middle = axles.middle_holds(h);
+        let rear = axles.rear_holds(h, sums.weight);
+        if middle & rear {
+            return Exceeded {
+                middle: false,
+                rear: false,
+            };
+        }
+        let counts = self.departure_counts(departure);
+        Exceeded {
+            middle: counts & !middle,
+            rear: counts & !rear,
+        }
     }
 }
 
@@ -224,30 +219,35 @@ fn exceeded_axles(rows: &[u32], on: Block, departure: u32, axles: AxleData) -> E
 // The lowest places where the rules on the weight of a used truck are broken.
 #[derive(Clone, Copy)]
 pub struct WeightPlaces {
-    pub overload: Found, // 26
-    pub middle: Found, // 27
-    pub rear: Found, // 28
+    pub overload: Option<Place>, // 26
+    pub middle: Option<Place>, // 27
+    pub rear: Option<Place>, // 28
 }
 
 // W1 and W2 of one used truck. Every departure is asked, not the last alone.
-pub fn truck_weights(t: &[u32], limits: Limits, rows: &[u32], on: Block) -> WeightPlaces
-    requires { HoldsRows limits t.now rows.now × OneTruck (stacks_in limits t.now) on.start on.end }
-    ensures { LowestPlaces (instance_in limits t.now) (block (stacks_in limits t.now) on.start on.end) result }
+pub fn truck_weights(manifest: Manifest<'_>, on: Block) -> WeightPlaces
+    requires { OneTruck (stacks_of manifest.table) on.start on.end }
+    ensures { LowestPlaces (instance_of manifest.entry.table) (block (stacks_of manifest.entry.table) on.start on.end) result }
 {
     let start = on.start;
-    let truck = row_word(rows, start, row::TRUCK);
-    let copy = row_word(rows, start, row::COPY);
-    let within = total_weight(rows, on) <= (truck_field(t, limits, truck, LOAD_LIMIT) as u64);
-    let axles = read_axle_data(t, limits, truck);
-    let list = suppliers(t, limits, truck);
-    let mut middle = Found::Nothing;
-    let mut rear = Found::Nothing;
-    let mut departure = list.len() as u32;
-    while 0 < departure {
-        let exceeded = exceeded_axles(rows, on, departure, axles);
+    let truck = row_word(manifest.rows, start, row::TRUCK);
+    let copy = row_word(manifest.rows, start, row::COPY);
+    let load = Load {
+        rows: manifest.rows,
+        on,
+    };
+    let within = load.total_weight() <= (manifest.table.truck_field(truck, LOAD_LIMIT) as u64);
+    let axles = Axles {
+        line: read_axle_data(manifest.table, truck),
+    };
+    let list = manifest.table.suppliers(truck);
+    let mut middle = None;
+    let mut rear = None;
+    for before in (0..list.len() as u32).rev() {
+        let departure = before + 1;
+        let exceeded = load.exceeded(departure, axles);
         middle = lower_of(place_if(exceeded.middle, truck, copy, departure), middle);
         rear = lower_of(place_if(exceeded.rear, truck, copy, departure), rear);
-        departure -= 1;
     }
     WeightPlaces {
         overload: place_if(!within, truck, copy, 0),

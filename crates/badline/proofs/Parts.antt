@@ -1,22 +1,22 @@
 -- The part that is handed back: by the verdict's number, and within the file that it stands in.
-use mathlib.Core.Path.{◌≡◌}
+use mathlib.Core.Path.{◌≡◌, sym, subst}
 use mathlib.Core.Logic.{◌⊎◌, inl, inr, ⊎_elim}
 use mathlib.Core.Bool.{Bool, true, false, cond, ◌||◌}
-use mathlib.Core.Option.{Option, none, some}
+use mathlib.Core.Option.{Option as Maybe, none, some}
 use mathlib.Core.List.{List, [], ◌∷◌}
 use Prim.Native.Nat.{ℕ, zero, suc, ◌+◌, ◌≤◌, ◌<◌}
 use native.Mathlib.Omega.{arith}
 use borrow.Author.Tests.{ne_eqb, eqb-false}
 use lib.Dec.{eqb}
 use lib.ListN.{length, drop, length-drop}
+use Rattle.std.specs.Prelude.{Option, None, Some}
 use Rattle.meaning.specs.Text.{count_before}
-use Rattle.meaning.specs.BadLine.{Span, span, line_span, File, in_instance, in_plan, Part, part_or, handed_back, span_bytes, part_bytes}
+use Rattle.meaning.specs.BadLine.{Span, line_span, File, in_instance, in_plan, Part, part_or, handed_back}
 use Rattle.meaning.proofs.Tests.{decide, eq_reads, or_reads}
 use Rattle.text.proofs.Bytes.{count_within}
 use Rattle.badline.specs.declared.LineFound.{LineFound}
-use Rattle.badline.specs.declared.LineFound.TheVariants.{At, Absent}
 use Rattle.badline.specs.declared.BadLine.{BadLine}
-use Rattle.badline.specs.Located.{span_of, file_of, part_of, part_found, part_pointer}
+use Rattle.badline.specs.Located.{span_of, file_of, part_of, part_found}
 
 -- ---- the number chooses the file
 -- a number that is one of two neighbours
@@ -39,10 +39,10 @@ module _ (instance plan : List ℕ) (number line : ℕ) where
       rw (a, b, one_of number 7 low high)
 
 -- where the line was looked for
-pub placed : (instance : List ℕ) (found : LineFound) (plan : Bool) (s : Option Span) → span_of found ≡ s
+pub placed : (instance : List ℕ) (found : Option LineFound) (plan : Bool) (s : Maybe Span) → span_of found ≡ s
     → part_found found plan (length instance) ≡ part_or instance (file_of plan) s
-placed instance (At start end) plan s e = rw (← e)
-placed instance Absent plan s e = rw (← e)
+placed instance (Some l) plan s e = rw (← e)
+placed instance None plan s e = rw (← e)
 
 -- another number
 abbrev pub Other : ℕ → Type 0
@@ -72,7 +72,7 @@ pub record Within (instance plan : List ℕ) (q : Part) : Type 0 where
   pub inside : q.span.end ≤ length (file_bytes instance plan q.file)
 
 -- a line lies within the bytes that it was looked for in
-abbrev SpanWithin : ℕ → Option Span → Type 0
+abbrev SpanWithin : ℕ → Maybe Span → Type 0
 SpanWithin size none = Unit {0}
 SpanWithin size (some s) = (s.start ≤ s.end) × (s.end ≤ size)
 
@@ -89,12 +89,12 @@ line_within (suc (suc n)) at (b ∷ bs) size h =
     let k = h (omega arith) in
     line_within (suc n) (at + past) (drop past (b ∷ bs)) size (λ more. omega (arith, more, length-drop past (b ∷ bs)))
 
-part_within : (instance plan : List ℕ) (file : File) (s : Option Span) → SpanWithin (length (file_bytes instance plan file)) s
+part_within : (instance plan : List ℕ) (file : File) (s : Maybe Span) → SpanWithin (length (file_bytes instance plan file)) s
     → Within instance plan (part_or instance file s)
 part_within instance plan file none h = record { forward = omega arith; inside = omega arith }
 part_within instance plan file (some s) h = record { forward = h.0; inside = h.1 }
 
-pub handed_within : (instance plan : List ℕ) (number line : ℕ) → Within instance plan (handed_back instance plan number line)
+handed_within : (instance plan : List ℕ) (number line : ℕ) → Within instance plan (handed_back instance plan number line)
 unfolding handed_back
 handed_within instance plan number line = go (eqb number 4 || eqb number 5) (eqb number 7 || eqb number 8)
   where
@@ -105,19 +105,10 @@ handed_within instance plan number line = go (eqb number 4 || eqb number 5) (eqb
     go false true = part_within instance plan in_plan (line_span line 0 plan) (line_within line 0 plan (length plan) (λ more. omega arith))
     go false false = part_within instance plan in_instance none tt
 
--- where the answer says the part
-module _ (instance plan : List ℕ) (r : BadLine) (q : Part) (is : part_of r ≡ q) where
-  pub bytes_plan : r.plan ≡ true → span_bytes plan (span r.start r.end) ≡ part_bytes instance plan q
-  bytes_plan e = rw (← is, e)
-
-  pub pointer_plan : (a b : ℕ × ℕ) → r.plan ≡ true → (b.0, r.start + b.1) ≡ part_pointer a b q
-  pointer_plan a b e = rw (← is, e)
-
-  pub pointer_instance : (a b : ℕ × ℕ) → r.plan ≡ false → (a.0, r.start + a.1) ≡ part_pointer a b q
-  pointer_instance a b e = rw (← is, e)
-
-  pub bytes_instance : r.plan ≡ false → span_bytes instance (span r.start r.end) ≡ part_bytes instance plan q
-  bytes_instance e = rw (← is, e)
+-- so does the answer that says it
+pub located_within : (instance plan : List ℕ) (number line : ℕ) (r : BadLine) → part_of r ≡ handed_back instance plan number line
+    → Within instance plan (part_of r)
+located_within instance plan number line r is = subst (Within instance plan) (sym is) (handed_within instance plan number line)
 
 module _ {instance plan : List ℕ} {r : BadLine} (w : Within instance plan (part_of r)) where
   pub within_plan : r.plan ≡ true → r.end ≤ length plan

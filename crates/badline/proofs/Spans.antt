@@ -31,8 +31,8 @@ pub record Walk (file : List ℕ) (line left at : ℕ) : Type 0 where
   pub some : 1 ≤ left
   pub same : line_span left at (drop at file) ≡ line_span line 0 file
 
-pub walk_begins : (file : List ℕ) (line : ℕ) → 1 ≤ line → Walk file line line 0
-walk_begins file line h = record { some = h; same = refl }
+pub walk_begins : (file : List ℕ) (line left : ℕ) → 1 ≤ line → left ≡ line → Walk file line left 0
+walk_begins file line left h e = record { some = omega arith; same = rw e refl }
 
 module _ {file : List ℕ} {line left at : ℕ} (w : Walk file line left at) where
   -- nothing is left of the file

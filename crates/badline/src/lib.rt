@@ -9,29 +9,31 @@ use text::line_end;
 
 // Where a line stands in its file: from its first byte up to its end, which is not included.
 #[derive(Clone, Copy)]
-pub enum LineFound {
-    At(usize, usize),
-    Absent,
+struct LineFound {
+    start: usize,
+    end: usize,
 }
 
 // A line of a file, counted from 1 and without its byte 10. An unended last line is there too.
-fn find_line(file: &[u8], line: u32) -> LineFound
+fn find_line(file: &[u8], line: u32) -> Option<LineFound>
     ensures { span_of result ≡ line_span line 0 file.now }
 {
     if line == 0 {
-        return LineFound::Absent;
+        return None;
     }
-    let mut left = line;
-    let mut at: usize = 0;
-    while at < file.len() {
-        let end = line_end(file, at);
-        if left == 1 {
-            return LineFound::At(at, end);
+    let mut start = 0;
+    for _passed in 1..line {
+        if file.len() <= start {
+            return None;
         }
-        left -= 1;
-        at = end + 1;
+        start = line_end(file, start) + 1;
     }
-    LineFound::Absent
+    if start < file.len() {
+        let end = line_end(file, start);
+        Some(LineFound { start, end })
+    } else {
+        None
+    }
 }
 
 // The part of a file that the bad line is: whether that file is the plan, and from where to where. Its fields lie as in C.
@@ -44,12 +46,12 @@ pub struct BadLine {
 }
 
 // The part of a line that was found; the empty part at the instance's end, which is the fallback, where it was not.
-fn part_found(found: LineFound, plan: bool, fallback: usize) -> BadLine
+fn part_found(found: Option<LineFound>, plan: bool, fallback: usize) -> BadLine
     ensures { part_of result ≡ part_found found plan fallback }
 {
     match found {
-        LineFound::At(start, end) => BadLine { plan, start, end },
-        LineFound::Absent => BadLine {
+        Some(LineFound { start, end }) => BadLine { plan, start, end },
+        None => BadLine {
             plan: false,
             start: fallback,
             end: fallback,
@@ -57,7 +59,7 @@ fn part_found(found: LineFound, plan: bool, fallback: usize) -> BadLine
     }
 }
 
-// Where the bad line of a verdict stands: in the instance for 4 and 5, in the plan for 7 and 8.
+// Where the bad line of a verdict stands: in the instance for 4 and 5, in the plan for 7 and 8. The number is a word, as C hands it over.
 pub fn locate(instance: &[u8], plan: &[u8], number: u32, line: u32) -> BadLine
     ensures { part_of result ≡ handed_back instance.now plan.now number line }
 {
@@ -65,7 +67,7 @@ pub fn locate(instance: &[u8], plan: &[u8], number: u32, line: u32) -> BadLine
     match number {
         4 | 5 => part_found(find_line(instance, line), false, end),
         7 | 8 => part_found(find_line(plan, line), true, end),
-        _ => part_found(LineFound::Absent, false, end),
+        _ => part_found(None, false, end),
     }
 }
 
@@ -77,11 +79,6 @@ pub fn bad_line<'a>(instance: &'a [u8], plan: &'a [u8], number: u32, line: u32) 
         (handed_back instance.now plan.now number line) }
 {
     let part = locate(instance, plan, number, line);
-    let start = part.start;
-    let end = part.end;
-    if part.plan {
-        &plan[start..end]
-    } else {
-        &instance[start..end]
-    }
+    let file = if part.plan { plan } else { instance };
+    &file[part.start..part.end]
 }

@@ -19,17 +19,16 @@ use Rattle.meaning.proofs.TableAfter.{table_after_lem}
 use Rattle.meaning.proofs.Readable.{readable_answer, readable_exactly_lem, decided}
 use Rattle.meaning.proofs.Feasible.{accepted_when_feasible_lem}
 use Rattle.meaning.proofs.AnyOrder.{order_free_lem, any_order}
-use Rattle.reading.specs.declared.FilesRead.{FilesRead}
-use Rattle.reading.specs.declared.FilesRead.TheVariants.{Refused, Readable}
-use Rattle.reading.specs.Answered.{read_as, readable_by, expected, ReadPromise}
+use Rattle.std.specs.Prelude.{Ok, Err, is_ok}
+use Rattle.reading.specs.Answered.{FilesRead, read_as, expected, ReadPromise}
 use Rattle.checking.specs.Checked.{CheckPromise}
 
 -- a refusal of reading is the answer
-answer_of : (short : Bool) (one a : Answer) (says : Reading) → Refused a ≡ cond short (Refused one) (read_as says) → a ≡ cond short one (answer_to says)
+answer_of : (short : Bool) (one a : Answer) (says : Reading) → Err a ≡ cond short (Err one) (read_as says) → a ≡ cond short one (answer_to says)
 unfolding answer_to
 answer_of true one a says e = cc
 answer_of false one a (refused b) e = cc
-answer_of false one a (readable i p) e = absurd (true≢false (sym (ap readable_by e)))
+answer_of false one a (readable i p) e = absurd (true≢false (sym (ap is_ok e)))
 
 module _ (m : Limits) (instance plan table₀ table : List ℕ) (a : Answer) where
   -- the theorems of the meaning are the parts that follow from answer and table
@@ -49,7 +48,7 @@ module _ (m : Limits) (instance plan table₀ table : List ℕ) (a : Answer) whe
 
   module _ (r : FilesRead) (h : ReadPromise m instance plan table₀ table r) where
     -- on readable files the answer is the verdict on what the table holds
-    pub judged : r ≡ Readable → a ≡ verdict_on (instance_in m table) (stacks_in m table) → CheckPromise m instance plan table₀ table a
+    pub judged : r ≡ Ok tt → a ≡ verdict_on (instance_in m table) (stacks_in m table) → CheckPromise m instance plan table₀ table a
     judged e v =
         let size : length table ≡ length table₀ = ap length h.words ∙ (table_after_lem m table₀ instance plan).size in
         let files : Files m instance plan = record { says = instance_in m table; stacks = stacks_in m table; read = h.model e } in
@@ -57,6 +56,6 @@ module _ (m : Limits) (instance plan table₀ table : List ℕ) (a : Answer) whe
         promised (v ∙ sym (readable_answer m (length table₀) instance plan (record { room = room; files = files }))) h.words
 
     -- on others it is what reading refuses them for
-    pub declined : r ≡ Refused a → CheckPromise m instance plan table₀ table a
+    pub declined : r ≡ Err a → CheckPromise m instance plan table₀ table a
     unfolding answer expected
     declined e = promised (answer_of (ltb (length table₀) (named m)) (refusal 1 (place 0 0 0)) a (read_files m instance plan) (sym e ∙ h.answered)) h.words

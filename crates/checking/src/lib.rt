@@ -10,19 +10,23 @@ ghost use Rattle.checking.specs.Checked.{CheckPromise};
 
 use judging::judge;
 use meaning::Answer;
-use reading::{FilesRead, read_files};
-use table::small_limits;
+use reading::read_files;
+use table::{NamedWords, Table, small_limits};
 
-// The verdict on the table that readable files fill. The arrays are scratch: for each stack a key and the 16 words of its row; a word for
-// each item or stack.
-fn verdict(t: &[u32]) -> Answer
-    requires { Filled small t.now }
-    ensures { result ≡ verdict_on (instance_in small t.now) (stacks_in small t.now) }
+// The verdict on the table that readable files fill. The arrays are scratch, for there is no heap: for each stack a key and the 16 words of
+// its row; a word for each item or stack.
+fn verdict(words: &[u32]) -> Answer
+    requires { Filled small words.now }
+    ensures { result ≡ verdict_on (instance_in small words.now) (stacks_in small words.now) }
 {
+    let limits = small_limits();
+    let table = Table {
+        named: NamedWords { words, limits },
+    };
     let mut keys = [0u64; 256];
     let mut order = [0u32; 256];
     let mut rows = [0u32; 4096];
-    judge(t, small_limits(), &mut keys, &mut order, &mut rows)
+    judge(table, &mut keys, &mut order, &mut rows)
 }
 
 // Checks a plan against its instance, by the limits of document 01. Any bytes and any table may be given. The named words of the table are
@@ -31,7 +35,7 @@ pub fn check(instance: &[u8], plan: &[u8], table: &mut [u32]) -> Answer
     ensures { CheckPromise small instance.now plan.now table.old table.new result }
 {
     match read_files(instance, plan, table) {
-        FilesRead::Refused(refusal) => refusal,
-        FilesRead::Readable => verdict(table),
+        Ok(()) => verdict(table),
+        Err(refusal) => refusal,
     }
 }

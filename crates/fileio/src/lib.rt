@@ -1,10 +1,10 @@
-// What the programs share: a file read whole, numbers and the answer printed. The checker does not lean on this crate: what the operating
+// What the programs share: a file read whole, and the answer printed. The checker does not lean on this crate: what the operating
 // system does is assumed of the kit's library under it. What is printed goes to a writer that the caller lends, and a failed write is an error.
 #![tactic(auto)]
 
-ghost use Rattle.std.specs.Prelude.{◌++◌, decimal, OnOk};
+ghost use Rattle.std.specs.Prelude.{◌≡◌, ◌≤◌, ◌++◌, decimal, length, take, IfSome, OnOk};
 ghost use Rattle.std.specs.Counts.{IsPrefixLen};
-ghost use Rattle.std.specs.Io.KnownBytes.{Appends};
+ghost use Rattle.std.specs.Io.KnownBytes.{Appends, Consumes};
 ghost use Rattle.fileio.specs.Printed.{answer_line, answer_lines};
 
 use meaning::Answer;
@@ -15,93 +15,73 @@ use std::rt::Files;
 
 // Reads until the buffer is full, the file ends or a read fails: how many bytes stand at the start of the buffer now.
 fn read_full<F: Read>(file: &mut F, buffer: &mut [u8]) -> usize
-    ensures { IsPrefixLen result buffer.new }
+    ensures fits { IsPrefixLen result buffer.new }
+    ensures bytes { Consumes (F.remaining file.old) (F.remaining file.new) (take result buffer.new) }
 {
     let mut done = 0;
-    while done < buffer.len() {
-        match file.read(&mut buffer[done..]) {
-            Ok(n) if n > 0 => done += n,
-            _ => return done,
-        }
+    while let Ok(n @ 1..) = file.read(&mut buffer[done..]) {
+        done += n;
     }
     done
 }
 
-// How many bytes of a file stand at the start of the buffer now. A file that is not there has none, and one that is longer fills the buffer.
-// A path that is no text names no file.
-pub fn read_file<R: Files>(files: &R, path: &[u8], buffer: &mut [u8]) -> usize
-    ensures { IsPrefixLen result buffer.new }
-{
-    let Ok(path) = str::from_utf8(path) else {
-        return 0;
-    };
-    match File::open(files, path) {
-        Ok(mut file) => read_full(&mut file, buffer),
-        Err(_) => 0,
-    }
+// The file of a path. A path that is no text names no file.
+fn open<R: Files>(files: &R, path: &[u8]) -> Option<R::File> {
+    File::open(files, str::from_utf8(path).ok()?).ok()
 }
 
-// A folder's path and a file's name, one behind the other at the start of the path: how many bytes they have. There are none where they do
-// not fit, or where no folder is named, since the name alone would be a file of another folder.
-fn join(folder: &[u8], name: &[u8], path: &mut [u8]) -> usize
-    ensures { IsPrefixLen result path.new }
+// What a file has, at the start of the buffer that it is read into. A file that is not there has no byte, and of one that is longer it is as
+// much as fills the buffer. The buffer is the caller's, so that no reading ends for want of memory.
+pub fn read_file<'a, R: Files>(files: &R, path: &[u8], buffer: &'a mut [u8]) -> &'a [u8]
+    ensures fits { length result.now ≤ length buffer.old }
+    ensures place { result.ref_ptr ≡ buffer.entry.ref_ptr }
 {
-    let start = folder.len();
-    if start == 0 {
-        return 0;
+    let n = match open(files, path) {
+        Some(mut file) => read_full(&mut file, buffer),
+        None => 0,
+    };
+    &buffer[..n]
+}
+
+// The path of a folder's file, at the start of the buffer that it is put into. There is none where it does not fit, or where no folder is named,
+// since the name alone would be a file of another folder.
+fn join<'a>(folder: &[u8], name: &[u8], buffer: &'a mut [u8]) -> Option<&'a [u8]>
+    ensures { IfSome result (λ path. path.now ≡ folder.now ++ name.now) }
+{
+    if folder.is_empty() {
+        return None;
     }
-    if path.len() < start {
-        return 0;
-    }
-    if path.len() - start < name.len() {
-        return 0;
-    }
-    let end = start + name.len();
-    path[..start].copy_from_slice(folder);
-    path[start..end].copy_from_slice(name);
-    end
+    let path = buffer.get_mut(..folder.len().checked_add(name.len())?)?;
+    path[..folder.len()].copy_from_slice(folder);
+    path[folder.len()..].copy_from_slice(name);
+    Some(path)
 }
 
 // As read_file, the file of a folder. Its name begins with the slash. The system takes no path of 4,096 bytes or more.
-pub fn read_file_in<R: Files>(files: &R, folder: &[u8], name: &[u8], buffer: &mut [u8]) -> usize
-    ensures { IsPrefixLen result buffer.new }
+pub fn read_file_in<'a, R: Files>(
+    files: &R,
+    folder: &[u8],
+    name: &[u8],
+    buffer: &'a mut [u8],
+) -> &'a [u8]
+    ensures fits { length result.now ≤ length buffer.old }
+    ensures place { result.ref_ptr ≡ buffer.entry.ref_ptr }
 {
-    let mut path = [0u8; 4096];
-    let n = join(folder, name, &mut path);
-    read_file(files, &path[..n], buffer)
+    match join(folder, name, &mut [0u8; 4096]) {
+        Some(path) => read_file(files, path, buffer),
+        None => &buffer[..0],
+    }
 }
 
-// Prints text.
-pub fn print<W: Write>(out: &mut W, text: &[u8]) -> io::Result<()>
-    ensures { OnOk result (Appends (W.contents out.old) (W.contents out.new) text.now) }
-{
-    out.write_all(text)
-}
-
-// Prints a number and the text after it.
-pub fn print_number<W: Write>(out: &mut W, n: u64, after: &[u8]) -> io::Result<()>
-    ensures { OnOk result (Appends (W.contents out.old) (W.contents out.new) (decimal n ++ after.now)) }
-{
-    write!(out, "{n}")?;
-    print(out, after)
-}
-
-// One line: a word of the answer and its number.
-fn print_line<W: Write>(out: &mut W, word: &[u8], n: u64) -> io::Result<()>
-    ensures { OnOk result (Appends (W.contents out.old) (W.contents out.new) (answer_line word.now n)) }
-{
-    print(out, word)?;
-    print_number(out, n, b"\n")
-}
-
-// The answer in six lines, in the order of document 01.
+// The answer in six lines, in the order of document 01. A function, since only the answer's own crate could make it a Display, and that one
+// prints nothing.
 pub fn print_answer<W: Write>(out: &mut W, answer: Answer) -> io::Result<()>
     ensures { OnOk result (Appends (W.contents out.old) (W.contents out.new) (answer_lines answer)) }
 {
-    print_line(out, b"number=", answer.number as u64)?;
-    print_line(out, b"first=", answer.first as u64)?;
-    print_line(out, b"second=", answer.second as u64)?;
-    print_line(out, b"third=", answer.third as u64)?;
-    print_line(out, b"cost=", answer.cost)?;
-    print_line(out, b"trucks=", answer.trucks as u64)
+    writeln!(out, "number={}", answer.number)?;
+    writeln!(out, "first={}", answer.first)?;
+    writeln!(out, "second={}", answer.second)?;
+    writeln!(out, "third={}", answer.third)?;
+    writeln!(out, "cost={}", answer.cost)?;
+    writeln!(out, "trucks={}", answer.trucks)
 }

@@ -1,17 +1,19 @@
 -- The five lines that an instance begins with, one after another, and the words of their numbers.
-use mathlib.Core.Path.{◌≡◌, sym, ◌∙◌}
-use mathlib.Core.List.{List}
-use Prim.Native.Nat.{ℕ}
+use mathlib.Core.Path.{◌≡◌, refl}
+use mathlib.Core.List.{List, []}
+use Prim.Native.Nat.{ℕ, ◌≤◌}
 use Prim.Native.String.{String}
 use lib.ListN.{set, replicate}
 use Rattle.meaning.specs.declared.Limits.{Limits}
 use Rattle.meaning.specs.Reader.{Reader, give, ◌>>=◌}
 use Rattle.meaning.specs.Files.{Range, ◌to◌, number_line}
-use Rattle.lines.specs.declared.Progress.{Progress}
-use Rattle.lines.specs.declared.NumberAnswer.{NumberAnswer}
-use Rattle.lines.specs.Progress.{reached, resumed}
-use Rattle.lines.proofs.Follow.{past_reader, given_reached}
-use Rattle.instance.specs.Words.{HeadNumbers, head_lines, head_row}
+use Rattle.std.specs.Prelude.{Ok, Err, IsErrAnd}
+use Rattle.lines.specs.declared.LineRefused.{LineRefused}
+use Rattle.lines.specs.declared.Cursor.{Cursor}
+use Rattle.lines.specs.Progress.{Progress, at_start, Going, LineResult, ReadInto}
+use Rattle.lines.proofs.Follow.{behind, behind_last, stopped, handed_on}
+use Rattle.instance.specs.declared.HeadCounts.{HeadCounts}
+use Rattle.instance.specs.Words.{HeadNumbers, head_lines, head_row, HeadPromise}
 
 abbrev pub head_numbers : ℕ → ℕ → ℕ → ℕ → ℕ → HeadNumbers
 head_numbers αT αI αE items trucks = record { αT = αT; αI = αI; αE = αE; items = items; trucks = trucks }
@@ -30,31 +32,72 @@ module _ (m : Limits) where
   abbrev pub from_inventory : ℕ → Reader HeadNumbers
   from_inventory αT = number_line "inventory=" (0 to 1000) >>= from_extra αT
 
--- what reading one number promises
-abbrev pub Number : List ℕ → Progress → String → Range → NumberAnswer → Type 0
-Number file p key range r = reached file r.value r.progress ≡ resumed file p (number_line key range)
+-- ---- line by line: what is read from a line on is read from the first line on, and so is a refusal
+-- one number, which stands in no words yet
+abbrev pub Number : List ℕ → String → Range → Progress → Progress → Type 0
+Number file key range p r = ReadInto file (number_line key range) (λ n. []) p r []
 
-pub head_says : (m : Limits) (file : List ℕ) (p : Progress) (transport inventory extra items trucks : NumberAnswer)
-    → Number file p "transport=" (0 to 1000) transport
-    → Number file transport.progress "inventory=" (0 to 1000) inventory
-    → Number file inventory.progress "extra=" (0 to 1000) extra
-    → Number file extra.progress "items=" (1 to m.items) items
-    → Number file items.progress "trucks=" (1 to m.trucks) trucks
-    → reached file (head_numbers transport.value inventory.value extra.value items.value trucks.value) trucks.progress
-    ≡ resumed file p (head_lines m)
-unfolding head_lines
-head_says m file p transport inventory extra items trucks e₁ e₂ e₃ e₄ e₅ =
-    let αT = transport.value in
-    let αI = inventory.value in
-    let αE = extra.value in
-    let counts = head_numbers αT αI αE items.value in
-    sym
-    (past_reader file p transport.progress αT _ (from_inventory m) e₁
-    ∙ past_reader file transport.progress inventory.progress αI _ (from_extra m αT) e₂
-    ∙ past_reader file inventory.progress extra.progress αE _ (from_items m αT αI) e₃
-    ∙ past_reader file extra.progress items.progress items.value _ (from_trucks m αT αI αE) e₄
-    ∙ past_reader file items.progress trucks.progress trucks.value _ (λ t. give (counts t)) e₅
-    ∙ given_reached file (counts trucks.value) trucks.progress)
+abbrev pub Head : Limits → List ℕ → Progress → List ℕ → Type 0
+Head m file r out = ReadInto file (head_lines m) head_row at_start r out
+
+no_numbers : HeadNumbers
+no_numbers = head_numbers 0 0 0 0 0
+
+module _ (m : Limits) {file : List ℕ} where
+  pub transport_refused : {e : LineRefused} {out : List ℕ} → Number file "transport=" (0 to 1000) at_start (Err e) → Head m file (Err e) out
+  unfolding head_lines
+  transport_refused r = stopped r (from_inventory m) no_numbers
+
+  module _ {c₁ : Cursor} (transport : Number file "transport=" (0 to 1000) at_start (Ok c₁)) where
+    behind_transport : {r : Progress} {out : List ℕ} → ReadInto file (from_inventory m transport.value) head_row (Ok c₁) r out → Head m file r out
+    unfolding head_lines
+    behind_transport rest = behind transport (from_inventory m) rest
+
+    pub inventory_refused : {e : LineRefused} {out : List ℕ} → Number file "inventory=" (0 to 1000) (Ok c₁) (Err e) → Head m file (Err e) out
+    inventory_refused r = behind_transport (stopped r (from_extra m transport.value) no_numbers)
+
+    module _ {c₂ : Cursor} (inventory : Number file "inventory=" (0 to 1000) (Ok c₁) (Ok c₂)) where
+      behind_inventory : {r : Progress} {out : List ℕ} → ReadInto file (from_extra m transport.value inventory.value) head_row (Ok c₂) r out → Head m file r out
+      behind_inventory rest = behind_transport (behind inventory (from_extra m transport.value) rest)
+
+      pub extra_refused : {e : LineRefused} {out : List ℕ} → Number file "extra=" (0 to 1000) (Ok c₂) (Err e) → Head m file (Err e) out
+      extra_refused r = behind_inventory (stopped r (from_items m transport.value inventory.value) no_numbers)
+
+      module _ {c₃ : Cursor} (extra : Number file "extra=" (0 to 1000) (Ok c₂) (Ok c₃)) where
+        behind_extra : {r : Progress} {out : List ℕ} → ReadInto file (from_items m transport.value inventory.value extra.value) head_row (Ok c₃) r out → Head m file r out
+        behind_extra rest = behind_inventory (behind extra (from_items m transport.value inventory.value) rest)
+
+        pub items_refused : {e : LineRefused} {out : List ℕ} → Number file "items=" (1 to m.items) (Ok c₃) (Err e) → Head m file (Err e) out
+        items_refused r = behind_extra (stopped r (from_trucks m transport.value inventory.value extra.value) no_numbers)
+
+        module _ {c₄ : Cursor} (items : Number file "items=" (1 to m.items) (Ok c₃) (Ok c₄)) where
+          behind_items : {r : Progress} {out : List ℕ}
+              → ReadInto file (from_trucks m transport.value inventory.value extra.value items.value) head_row (Ok c₄) r out → Head m file r out
+          behind_items rest = behind_extra (behind items (from_trucks m transport.value inventory.value extra.value) rest)
+
+          abbrev numbers : ℕ → HeadNumbers
+          numbers n = head_numbers transport.value inventory.value extra.value items.value n
+
+          pub trucks_refused : {e : LineRefused} {out : List ℕ} → Number file "trucks=" (1 to m.trucks) (Ok c₄) (Err e) → Head m file (Err e) out
+          trucks_refused r = behind_items (stopped r (λ n. give (numbers n)) no_numbers)
+
+          head_read : {r : Progress} {out : List ℕ} (trucks : Number file "trucks=" (1 to m.trucks) (Ok c₄) r) → (Going r → out ≡ head_row (numbers trucks.value))
+              → Head m file r out
+          head_read trucks stands = behind_items (behind_last trucks numbers stands)
+
+          -- and the counts besides
+          pub head_promised : {c₅ : Cursor} {out : List ℕ} (trucks : Number file "trucks=" (1 to m.trucks) (Ok c₄) (Ok c₅))
+              → out ≡ head_row (numbers trucks.value) → items.value ≤ m.items → trucks.value ≤ m.trucks
+              → HeadPromise m file (Ok (record { value = record { items = items.value; trucks = trucks.value }; next = c₅ })) out
+          unfolding head_read behind_items behind_extra behind_inventory behind_transport head_lines
+          head_promised trucks stands few_items few_trucks =
+              record { into = head_read trucks (λ g. stands); items = refl; trucks = refl; items_within = few_items; trucks_within = few_trucks }
+
+-- a refusal has no counts
+pub head_refused : {m : Limits} {file : List ℕ} {e : LineRefused} {part : List ℕ} (r : LineResult HeadCounts) → IsErrAnd r (λ x. x ≡ e)
+    → ReadInto file (head_lines m) head_row at_start (Err e) part → HeadPromise m file r part
+head_refused (Ok f) h i = absurd h
+head_refused (Err x) h i = record { into = handed_on h i; items = tt; trucks = tt; items_within = tt; trucks_within = tt }
 
 -- five words stored over zeros
 pub head_words_lem : (part : List ℕ) (αT αI αE items trucks : ℕ) → part ≡ replicate 16 0

@@ -1,6 +1,6 @@
 -- The whole instance file: head, items and trucks one after another, each into its own part of the words.
 use mathlib.Core.Path.{◌≡◌, refl, sym, ap, ap₂, ◌∙◌}
-use mathlib.Core.List.{List, ◌++◌}
+use mathlib.Core.List.{List, [], ◌++◌}
 use Prim.Native.Nat.{ℕ, ◌*◌}
 use lib.ListN.{length}
 use Rattle.meaning.specs.declared.Limits.{Limits}
@@ -8,11 +8,14 @@ use Rattle.meaning.specs.Model.{Instance, Item, Truck}
 use Rattle.meaning.specs.Reader.{Outcome, Reader, give, onward, ◌>>=◌, line, times, at_end}
 use Rattle.meaning.specs.Files.{number_line, ◌to◌, item_line, truck_lines, instance_lines}
 use Rattle.meaning.specs.Table.{truck_words}
-use Rattle.lines.specs.declared.Progress.{Progress}
-use Rattle.lines.specs.Progress.{at_start, reached, resumed, Going, ended_as, ReadInto}
-use Rattle.lines.proofs.Follow.{regroup, past_reader, given_reached, no_refusal, same_resumed, times_count}
+use Rattle.std.specs.Prelude.{Ok, Err}
+use Rattle.lines.specs.declared.LineRefused.{LineRefused}
+use Rattle.lines.specs.declared.Cursor.{Cursor}
+use Rattle.lines.specs.declared.LineValue.{LineValue}
+use Rattle.lines.specs.Progress.{Progress, at_start, Going, ended_as, ReadInto}
+use Rattle.lines.proofs.Follow.{regroup, behind, behind_last, stopped, times_count}
 use Rattle.trucks.specs.Rows.{rows}
-use Rattle.instance.specs.declared.HeadAnswer.{HeadAnswer}
+use Rattle.instance.specs.declared.HeadCounts.{HeadCounts}
 use Rattle.instance.specs.Words.{HeadNumbers, head_lines, head_row, HeadPromise, instance_file, instance_words}
 use Rattle.instance.proofs.HeadLines.{head_numbers, from_inventory, from_extra, from_items, from_trucks}
 use Rattle.lines.proofs.Ended.{ended_reached, ended_going, ended_within}
@@ -37,59 +40,68 @@ head_first m n bs =
     regroup (number_line "items=" (1 to m.items) n bs) (from_trucks m αT αI αE) after_head _ (λ items n bs.
     regroup (number_line "trucks=" (1 to m.trucks) n bs) (λ trucks. give (head_numbers αT αI αE items trucks)) after_head _ (λ trucks n bs. refl)))))
 
-module _ {m : Limits} {file : List ℕ} {head : HeadAnswer} {items trucks : Progress} {a b c : List ℕ} {itemSize truckSize : ℕ}
-    (h : HeadPromise m file head a)
-    (i : ReadInto file (times head.items (line item_line)) (rows itemSize (λ ns. ns)) head.progress items b)
-    (t : ReadInto file (times head.trucks truck_lines) (rows truckSize truck_words) items trucks c)
-    (itemsFill : itemSize ≡ 16 * m.items) (trucksFill : truckSize ≡ 160 * m.trucks) where
-  abbrev numbers : HeadNumbers
-  numbers = h.into.value
+no_instance : Instance
+no_instance = instance_of (head_numbers 0 0 0 0 0) [] []
 
-  abbrev read_as : Instance
-  read_as = instance_of numbers i.value t.value
+-- what is read as the head's lines and those behind them is read as the instance's lines
+as_lines : (m : Limits) {file : List ℕ} {words : Instance → List ℕ} {r : Progress} {out : List ℕ}
+    → ReadInto file (head_lines m >>= after_head) words at_start r out → ReadInto file (instance_lines m) words at_start r out
+as_lines m {file} i = record { value = i.value; says = i.says ∙ head_first m 1 file; holds = i.holds; within = i.within }
 
-  -- where the trucks are read, so is what stands before them
-  items_going : Going trucks → Going items
-  items_going g = no_refusal t g
-
-  head_going : Going items → Going head.progress
-  head_going g = no_refusal i g
-
-  lines_say : reached file read_as trucks ≡ resumed file at_start (instance_lines m)
-  lines_say =
-      let itemLines : ℕ → Reader (List Item) = λ k. times k (line item_line) in
-      let allTruckLines : ℕ → Reader (List Truck) = λ k. times k truck_lines in
-      sym
-      (sym (head_first m 1 file)
-      ∙ past_reader file at_start head.progress numbers (head_lines m) after_head h.into.says
-      ∙ past_reader file head.progress items i.value (itemLines numbers.items) (after_items numbers)
-      (i.says ∙ same_resumed file head.progress _ _ (λ g. ap itemLines (h.items g)))
-      ∙ past_reader file items trucks t.value (allTruckLines numbers.trucks) (λ ts. give (instance_of numbers i.value ts))
-      (t.says ∙ same_resumed file items _ _ (λ g. ap allTruckLines (h.trucks (head_going g))))
-      ∙ given_reached file read_as trucks)
+module _ {m : Limits} {file a : List ℕ} where
+  pub head_refuses : {e : LineRefused} {out : List ℕ} → HeadPromise m file (Err e) a → ReadInto file (instance_file m) (instance_words m) at_start (Err e) out
+  head_refuses {out = out} h = stopped (as_lines m {words = instance_words m} {out = out} (stopped h.into after_head no_instance)) at_end no_instance
 
   -- the counts in the head are those of the items and trucks
-  words_stand : Going trucks → a ++ (b ++ c) ≡ instance_words m read_as
-  unfolding instance_words
-  words_stand g =
-      let gi = items_going g in
-      let gh = head_going gi in
-      let item_count : numbers.items ≡ length i.value =
-      sym (times_count (line item_line) file head.items head.progress items i.value i.says gi ∙ h.items gh)
-      in
-      let truck_count : numbers.trucks ≡ length t.value =
-      sym (times_count truck_lines file head.trucks items trucks t.value t.says g ∙ h.trucks gh)
-      in
-      let row : a ≡ head_row (head_numbers numbers.αT numbers.αI numbers.αE (length i.value) (length t.value)) =
-      h.into.holds gh ∙ ap₂ (λ (k l : ℕ). head_row (head_numbers numbers.αT numbers.αI numbers.αE k l)) item_count truck_count
-      in
-      rw (← itemsFill, ← trucksFill) (ap₂ (λ (x y : List ℕ). x ++ y) row (ap₂ (λ (x y : List ℕ). x ++ y) (i.holds gi) (t.holds g)))
+  module _ {head : LineValue HeadCounts} (h : HeadPromise m file (Ok head) a) where
+    abbrev numbers : HeadNumbers
+    numbers = h.into.value
 
-  pub instance_read : (part : List ℕ) → part ≡ a ++ (b ++ c) → ReadInto file (instance_file m) (instance_words m) at_start (ended_as (length file) trucks) part
-  instance_read part e =
-      record {
-        value = read_as;
-        says = ended_reached read_as file trucks ∙ ap (λ (x : Outcome Instance). onward x at_end) lines_say;
-        holds = λ g. e ∙ words_stand (ended_going file trucks g);
-        within = ended_within file trucks t.within;
-      }
+    behind_head : {words : Instance → List ℕ} {r : Progress} {out : List ℕ} → ReadInto file (after_head numbers) words (Ok head.next) r out
+        → ReadInto file (instance_lines m) words at_start r out
+    behind_head rest = as_lines m (behind h.into after_head rest)
+
+    pub items_refuse : (size : ℕ) {e : LineRefused} {b out : List ℕ}
+        → ReadInto file (times head.value.items (line item_line)) (rows size (λ ns. ns)) (Ok head.next) (Err e) b
+        → ReadInto file (instance_file m) (instance_words m) at_start (Err e) out
+    items_refuse size {out = out} i =
+        stopped (behind_head {words = instance_words m} {out = out} (stopped (rw h.items at i) (after_items numbers) no_instance)) at_end no_instance
+
+    module _ {items : Cursor} {trucks : Progress} {itemSize truckSize : ℕ} {b c : List ℕ}
+        (i : ReadInto file (times head.value.items (line item_line)) (rows itemSize (λ ns. ns)) (Ok head.next) (Ok items) b)
+        (t : ReadInto file (times head.value.trucks truck_lines) (rows truckSize truck_words) (Ok items) trucks c)
+        (itemsFill : itemSize ≡ 16 * m.items) (trucksFill : truckSize ≡ 160 * m.trucks) where
+      abbrev all_items : ReadInto file (times numbers.items (line item_line)) (rows itemSize (λ ns. ns)) (Ok head.next) (Ok items) b
+      all_items = rw h.items at i
+
+      abbrev all_trucks : ReadInto file (times numbers.trucks truck_lines) (rows truckSize truck_words) (Ok items) trucks c
+      all_trucks = rw h.trucks at t
+
+      words_stand : Going trucks → a ++ (b ++ c) ≡ instance_words m (instance_of numbers all_items.value all_trucks.value)
+      unfolding instance_words
+      words_stand g =
+          let its = all_items.value in
+          let trs = all_trucks.value in
+          let item_count : numbers.items ≡ length its =
+          sym (times_count (line item_line) file numbers.items (Ok head.next) (Ok items) its all_items.says tt)
+          in
+          let truck_count : numbers.trucks ≡ length trs =
+          sym (times_count truck_lines file numbers.trucks (Ok items) trucks trs all_trucks.says g)
+          in
+          let row : a ≡ head_row (head_numbers numbers.αT numbers.αI numbers.αE (length its) (length trs)) =
+          h.into.holds tt ∙ ap₂ (λ (k l : ℕ). head_row (head_numbers numbers.αT numbers.αI numbers.αE k l)) item_count truck_count
+          in
+          rw (← itemsFill, ← trucksFill) (ap₂ (λ (x y : List ℕ). x ++ y) row (ap₂ (λ (x y : List ℕ). x ++ y) (all_items.holds tt) (all_trucks.holds g)))
+
+      pub instance_read : (part : List ℕ) → part ≡ a ++ (b ++ c)
+          → ReadInto file (instance_file m) (instance_words m) at_start (ended_as (length file) trucks) part
+      instance_read part e =
+          let lines : ReadInto file (instance_lines m) (instance_words m) at_start trucks part =
+          behind_head (behind all_items (after_items numbers) (behind_last all_trucks (instance_of numbers all_items.value) (λ g. e ∙ words_stand g)))
+          in
+          record {
+            value = lines.value;
+            says = ended_reached lines.value file trucks ∙ ap (λ (x : Outcome Instance). onward x at_end) lines.says;
+            holds = λ g. lines.holds (ended_going file trucks g);
+            within = ended_within file trucks lines.within;
+          }

@@ -1,5 +1,5 @@
 -- The parts of an instance as they stand in the table, and the first five lines as one reader.
-use Rattle.std.specs.Prelude.{◌≡◌, ℕ, ◌*◌, ◌≤◌, length}
+use Rattle.std.specs.Prelude.{◌≡◌, ℕ, ◌*◌, ◌≤◌, length, IfOk}
 use mathlib.Core.List.{List, [], ◌∷◌, ◌++◌, flat_map}
 use Rattle.meaning.specs.declared.Limits.{Limits}
 use Rattle.meaning.specs.Lists.{padded}
@@ -8,9 +8,9 @@ use Rattle.meaning.specs.Reader.{Reader, give, onward, ◌>>=◌, at_end}
 use Rattle.meaning.specs.Files.{number_line, ◌to◌, instance_lines}
 use Rattle.meaning.specs.Model.{Instance, Item}
 use Rattle.meaning.specs.Table.{truck_words}
-use Rattle.lines.specs.Progress.{at_start, Going, ReadInto}
+use Rattle.lines.specs.Progress.{at_start, LineResult, progress_of, ReadInto}
 use Rattle.trucks.specs.Rows.{rows}
-use Rattle.instance.specs.declared.HeadAnswer.{HeadAnswer}
+use Rattle.instance.specs.declared.HeadCounts.{HeadCounts}
 
 -- the numbers of the five lines that an instance begins with
 pub record HeadNumbers : Type 0 where
@@ -35,13 +35,13 @@ head_lines m = do
 abbrev pub head_row : HeadNumbers → List ℕ
 head_row h = padded items_at (h.αT ∷ h.αI ∷ h.αE ∷ h.items ∷ h.trucks ∷ [])
 
--- what reading the head promises: the counts besides, which are within the limits also after a refusal
-pub record HeadPromise (m : Limits) (file : List ℕ) (r : HeadAnswer) (part : List ℕ) : Type 0 where
-  pub into : ReadInto file (head_lines m) head_row at_start r.progress part
-  pub items : Going r.progress → r.items ≡ into.value.items
-  pub trucks : Going r.progress → r.trucks ≡ into.value.trucks
-  pub items_within : r.items ≤ m.items
-  pub trucks_within : r.trucks ≤ m.trucks
+-- what reading the head promises: the counts besides, which are within the limits
+pub record HeadPromise (m : Limits) (file : List ℕ) (r : LineResult HeadCounts) (part : List ℕ) : Type 0 where
+  pub into : ReadInto file (head_lines m) head_row at_start (progress_of r) part
+  pub items : IfOk r (λ f. f.value.items ≡ into.value.items)
+  pub trucks : IfOk r (λ f. f.value.trucks ≡ into.value.trucks)
+  pub items_within : IfOk r (λ f. f.value.items ≤ m.items)
+  pub trucks_within : IfOk r (λ f. f.value.trucks ≤ m.trucks)
 
 -- the head of an instance
 abbrev pub head_of : Instance → HeadNumbers

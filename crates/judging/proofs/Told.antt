@@ -6,6 +6,7 @@ use mathlib.Core.List.{List, [], ◌∷◌, ◌++◌, Permᴰ}
 use Prim.Native.Nat.{ℕ, ◌+◌, ◌≤◌}
 use native.Mathlib.Omega.{arith}
 use lib.ListN.{length, drop, drop_of_length-le}
+use Rattle.std.specs.Prelude.{Option, None}
 use Rattle.meaning.specs.declared.Place.{Place}
 use Rattle.meaning.specs.declared.Limits.{Limits}
 use Rattle.meaning.specs.Model.{Instance, Stack}
@@ -19,8 +20,6 @@ use Rattle.meaning.proofs.Permute.{Same}
 use Rattle.meaning.proofs.VerdictOrder.{load_fits_perm, middle_fits_perm, rear_fits_perm, braced_perm, pair_places_same, stack_places_same}
 use Rattle.meaning.proofs.VerdictOrder.{truck_places_same, departure_places_same}
 use Rattle.search.specs.Lowest.{lowest_in, lower_found}
-use Rattle.search.specs.declared.Found.{Found}
-use Rattle.search.specs.declared.Found.TheVariants.{Nothing}
 use Rattle.search.proofs.Lowest.{lowest_none, lowest_append, lowest_members}
 use Rattle.rules.specs.declared.Rule.{Rule}
 use Rattle.rules.specs.declared.Rule.TheVariants.{OfStacks, OfPairs, OfTrucks}
@@ -112,15 +111,15 @@ module _ {places : Instance → List Stack → List Place} {i : Instance} (by : 
       ((λ e. none_same (places i p) (places i (in_manifest p)) s (h.0 e)), (λ e. h.1 (none_same (places i (in_manifest p)) (places i p) (s.1, s.0) e)))
 
   -- the lowest place
-  found_start : {end : ℕ} → end ≡ length p → Nothing ≡ lowest_in (places i (drop end (in_manifest p)))
+  found_start : {end : ℕ} → end ≡ length p → None ≡ lowest_in (places i (drop end (in_manifest p)))
   found_start e = rw (none_behind e) (sym lowest_none)
 
-  found_more : {start end : ℕ} {a b : Found} → OneTruck p start end → Parted p end → a ≡ lowest_in (places i (block p start end))
+  found_more : {start end : ℕ} {a b : Option Place} → OneTruck p start end → Parted p end → a ≡ lowest_in (places i (block p start end))
       → b ≡ lowest_in (places i (drop end (in_manifest p))) → lower_found a b ≡ lowest_in (places i (drop start (in_manifest p)))
   found_more {start} {end} one parted ea eb =
       ap₂ lower_found ea eb ∙ sym (lowest_append (places i (block p start end)) (places i (drop end (in_manifest p)))) ∙ sym (ap lowest_in (split one parted))
 
-  found_all : {a : Found} → a ≡ lowest_in (places i (in_manifest p)) → a ≡ lowest_in (places i p)
+  found_all : {a : Option Place} → a ≡ lowest_in (places i (in_manifest p)) → a ≡ lowest_in (places i p)
   found_all e = e ∙ sym (lowest_members (places i p) (places i (in_manifest p)) (by.same p (in_manifest p) (manifest_perm p)))
 
 -- ---- every rule that the used trucks are asked
@@ -173,14 +172,14 @@ module _ {asked : Asked} {i : Instance} {p : List Stack} where
 
   -- one used truck more
   pub told_more : {start end count cost count' cost' : ℕ} (a b : Findings) → Told asked i p end b count cost → OneTruck p start end × Parted p start
-      → ((rule : Rule) → is_asked asked rule ≡ true → Beforehand rule a → Tells rule i (block p start end) a)
+      → TellsAsked asked i (block p start end) a
       → (count' ≡ count + 1) × (cost' ≡ transport_cost i (used_by (manifest_at p start)) + cost) × (cost' ≤ cost + 2000000000)
       → Told asked i p start (joined a b) count' cost'
   told_more a b h one here paid =
       record {
         each = λ rule q w.
             let both = beforehand_joined rule a b w in
-            tells_more i p rule a b one.0 h.counted.parted (here rule q both.0) (h.each rule q both.1);
+            tells_more i p rule a b one.0 h.counted.parted (here.each rule q both.0) (h.each rule q both.1);
         counted = counted_more h.counted one.0 one.1 paid;
       }
 
@@ -194,15 +193,18 @@ module _ {asked : Asked} {i : Instance} {p : List Stack} where
 pub truck_told : {asked : Asked} (i : Instance) (p : List Stack) (f : Findings)
     → (asked.single_pair ≡ true → (f.single_pair ≡ true) ↔ (pair_places single_pair i p ≡ []))
     → (asked.placement ≡ true → PlacedStacks i p f.placement) → (asked.weights ≡ true → LowestPlaces i p f.weights)
-    → (rule : Rule) → is_asked asked rule ≡ true → Beforehand rule f → Tells rule i p f
-truck_told i p f s q w (OfStacks rule) e n = tt
-truck_told i p f s q w (OfPairs SecondPair) e n = s e
-truck_told i p f s q w (OfPairs Overlap) e n = (q e).apart
-truck_told i p f s q w (OfPairs Order) e n = (q e).ordered n
-truck_told i p f s q w (OfTrucks Unbraced) e n = (q e).unbraced
-truck_told i p f s q w (OfTrucks Overload) e n = (w e).overload
-truck_told i p f s q w (OfTrucks Middle) e n = (w e).middle
-truck_told i p f s q w (OfTrucks Rear) e n = (w e).rear
+    → TellsAsked asked i p f
+truck_told {asked} i p f s q w = record { each = told }
+  where
+    told : (rule : Rule) → is_asked asked rule ≡ true → Beforehand rule f → Tells rule i p f
+    told (OfStacks rule) e n = tt
+    told (OfPairs SecondPair) e n = s e
+    told (OfPairs Overlap) e n = (q e).apart
+    told (OfPairs Order) e n = (q e).ordered n
+    told (OfTrucks Unbraced) e n = (q e).unbraced
+    told (OfTrucks Overload) e n = (w e).overload
+    told (OfTrucks Middle) e n = (w e).middle
+    told (OfTrucks Rear) e n = (w e).rear
 
 -- ---- what the walk leans on
 -- the used truck before `end`, and the walk so far

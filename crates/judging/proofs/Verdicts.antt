@@ -7,19 +7,16 @@ use Prim.Native.Nat.{ℕ, suc, ◌+◌, ◌≤◌, ◌<◌}
 use native.Mathlib.Decide.{dec_le}
 use native.Mathlib.Nat.{eq-or-lt_of_le}
 use native.Mathlib.Omega.{arith}
-use borrow.Author.Tests.{not-true, not-false}
-use lib.ListN.{get_or}
+use Rattle.std.specs.Prelude.{Option, Some, None}
 use Rattle.meaning.specs.declared.Place.{Place}
 use Rattle.meaning.specs.declared.Answer.{Answer}
 use Rattle.meaning.specs.Rules.{loading_rules}
 use Rattle.meaning.specs.Verdict.{refusal, first_broken}
 use Rattle.meaning.specs.Model.{Instance, Stack}
 use Rattle.meaning.specs.Lists.{all, any, up_from}
-use Rattle.meaning.proofs.Tests.{true≢false, fails, and_reads}
+use Rattle.meaning.proofs.Tests.{true≢false, and_reads}
 use Rattle.meaning.proofs.Lists.{all_reads, any_reads, in_up_from}
 use Rattle.search.specs.Lowest.{lowest_in}
-use Rattle.search.specs.declared.Found.{Found}
-use Rattle.search.specs.declared.Found.TheVariants.{At, Nothing}
 use Rattle.search.proofs.Lowest.{none_listed}
 use Rattle.rules.specs.declared.Rule.{Rule}
 use Rattle.rules.specs.declared.Rule.TheVariants.{OfStacks, OfPairs, OfTrucks}
@@ -28,48 +25,35 @@ use Rattle.rules.specs.declared.PairRule.TheVariants.{SecondPair, Overlap, Order
 use Rattle.rules.specs.declared.StackRule.{StackRule}
 use Rattle.rules.specs.declared.TruckRule.{TruckRule}
 use Rattle.rules.specs.declared.TruckRule.TheVariants.{Unbraced, Overload, Middle, Rear}
-use Rattle.rules.specs.LoadingRules.{rule_places, on_stack, verdicts, rule_count, rule_at, KeptBelow}
-use Rattle.rules.proofs.Ranks.{broken_at_rank}
+use Rattle.rules.specs.LoadingRules.{rule_places, on_stack, rule_count, rule_at, verdict_of, KeptBelow}
+use Rattle.rules.proofs.Ranks.{verdict_named, broken_at_rank}
 use Rattle.stackrules.specs.declared.Breach.{Breach}
-use Rattle.stackrules.specs.StackRules.{FirstOnStacks}
+use Rattle.stackrules.specs.StackRules.{rank_of, FirstOf, FirstOnStacks}
 use Rattle.judging.specs.declared.Asked.{Asked}
 use Rattle.judging.specs.declared.Findings.{Findings}
 use Rattle.judging.specs.declared.UsedTrucks.{UsedTrucks}
 use Rattle.judging.specs.declared.Survey.{Survey}
-use Rattle.judging.specs.Judging.{is_asked, AskedBelow, pair_kept, truck_found, all_kept, Beforehand, nothing, kept_by, Tells, TellsAsked, FirstRank, CountsTrucks, SurveyOf, place_in}
+use Rattle.judging.specs.Judging.{is_asked, AskedBelow, pair_kept, truck_found, all_kept, Beforehand, nothing, kept_by, Tells, TellsAsked, FirstRank, CountsTrucks, stack_found, SurveyOf, place_in}
 
 -- ---- what a search found
-found_none : (f : Found) → nothing f ≡ true → Nothing ≡ f
-found_none (At p) e = absurd (true≢false (sym e))
-found_none Nothing e = refl
+found_none : (f : Option Place) → nothing f ≡ true → None ≡ f
+found_none (Some p) e = absurd (true≢false (sym e))
+found_none None e = refl
 
-found_some : (f : Found) → nothing f ≡ false → At (place_in f) ≡ f
-found_some (At p) e = refl
-found_some Nothing e = absurd (true≢false e)
-
-pub kept_told : {f g : Found} {none : Bool} → f ≡ g → (none ≡ true) ↔ (f ≡ Nothing) → none ≡ nothing g
-kept_told {f} {g} {none} e h = by_kind g e
-  where
-    never : (p : Place) → At p ≡ Nothing → ⊥
-    never p e = let z : ◌≡◌ {A = ℕ} 0 1 = cc in omega arith
-
-    by_kind : (g : Found) → f ≡ g → none ≡ nothing g
-    by_kind (At p) e = fails none (λ t. never p (sym e ∙ h.0 t))
-    by_kind Nothing e = h.1 e
-
-pub told_nothing : {f : Found} {none : Bool} → (none ≡ true) ↔ (f ≡ Nothing) → none ≡ nothing f
-told_nothing h = kept_told refl h
+found_some : (f : Option Place) → nothing f ≡ false → Some (place_in f) ≡ f
+found_some (Some p) e = refl
+found_some None e = absurd (true≢false e)
 
 -- a rule by another name
 pub told_of : (f : Findings) {rule same : Rule} {kept : Bool} → kept ≡ kept_by rule f → rule ≡ same → kept ≡ kept_by same f
 told_of f e r = e ∙ ap (λ r. kept_by r f) r
 
 -- a search that is made where a rule is not kept finds a place
-pub lowest_broken : {f : Found} {places : List Place} {kept : Bool} → f ≡ lowest_in places → (kept ≡ true) ↔ (places ≡ []) → kept ≡ false
-    → At (place_in f) ≡ lowest_in places
+pub lowest_broken : {f : Option Place} {places : List Place} {kept : Bool} → f ≡ lowest_in places → (kept ≡ true) ↔ (places ≡ []) → kept ≡ false
+    → Some (place_in f) ≡ lowest_in places
 lowest_broken {f} {places} e tells broken = by_kind (nothing f) refl
   where
-    by_kind : (n : Bool) → nothing f ≡ n → At (place_in f) ≡ lowest_in places
+    by_kind : (n : Bool) → nothing f ≡ n → Some (place_in f) ≡ lowest_in places
     by_kind true z = absurd (true≢false (sym (tells.1 (none_listed places (found_none f z ∙ e))) ∙ broken))
     by_kind false z = found_some f z ∙ e
 
@@ -157,29 +141,30 @@ pub record KeptTo (f : Findings) (upto rank : ℕ) : Type 0 where
   pub kept : (k : ℕ) → k < rank → kept_by (rule_at k) f ≡ true
 
 module _ {f : Findings} {upto : ℕ} where
-  pub kept_start : KeptTo f upto 0
-  kept_start = record { within = omega arith; kept = λ k below. absurd (omega arith) }
-
   module _ {rank : ℕ} (h : KeptTo f upto rank) where
-    pub kept_on : {kept : Bool} → rank < upto → kept ≡ kept_by (rule_at rank) f → not kept ≡ false → KeptTo f upto (rank + 1)
+    pub kept_on : {kept : Bool} → rank < upto → kept ≡ kept_by (rule_at rank) f → kept ≡ true → KeptTo f upto (rank + 1)
     kept_on {kept} more e q = record { within = omega arith; kept = λ k below. go k below (dec_le (suc k) rank) }
       where
         go : (k : ℕ) → k < rank + 1 → Dec (k < rank) → kept_by (rule_at k) f ≡ true
         go k below (yes less) = h.kept k less
-        go k below (no past) = let same : k ≡ rank = omega arith in rw same (sym e ∙ not-false kept q)
+        go k below (no past) = let same : k ≡ rank = omega arith in rw same (sym e ∙ q)
 
-    pub kept_until : {kept : Bool} → kept ≡ kept_by (rule_at rank) f → not kept ≡ true → FirstRank f upto rank
-    kept_until {kept} e q = record { within = h.within; kept = h.kept; broken = λ more. sym e ∙ not-true kept q }
+    pub kept_whole : upto ≤ rank → FirstRank f upto upto
+    kept_whole past = record { within = omega arith; kept = λ k below. h.kept k (omega arith); broken = λ more. absurd (omega arith) }
 
-    pub kept_whole : upto ≤ rank → FirstRank f upto rank
-    kept_whole past = record { within = h.within; kept = h.kept; broken = λ more. absurd (omega arith) }
+-- ---- the first broken rule on single stacks
+pub upto_rules : {places : Rule → List Place} (b : Option Breach) → FirstOf places b → rank_of b ≤ rule_count
+upto_rules None h = omega arith
+upto_rules (Some b) h = omega (arith, (h.broken b refl).0)
 
-  pub all_kept_to : all_kept f ≡ true → FirstRank f upto upto
-  all_kept_to e = record { within = omega arith; kept = λ k below. all_told f e (rule_at k); broken = λ more. absurd (omega arith) }
+broken_first : {places : Rule → List Place} (b : Option Breach) → FirstOf places b → rank_of b < rule_count
+    → (on_stack (rule_at (rank_of b)) ≡ true) × (Some (place_in (stack_found b)) ≡ lowest_in (places (rule_at (rank_of b))))
+broken_first None h inside = absurd (omega (arith, inside))
+broken_first (Some b) h inside = let own = h.broken b refl in (own.1, own.2)
 
 -- ---- the first broken rule
-module _ {i : Instance} {p : List Stack} {b : Breach} {asked : Asked} {f : Findings} {rank : ℕ} (first : FirstOnStacks i p b)
-    (covers : AskedBelow b.rank asked) (tells : TellsAsked asked i p f) (r : FirstRank f b.rank rank) where
+module _ {i : Instance} {p : List Stack} {b : Option Breach} {asked : Asked} {f : Findings} {rank : ℕ} (first : FirstOnStacks i p b)
+    (covers : AskedBelow (rank_of b) asked) (tells : TellsAsked asked i p f) (r : FirstRank f (rank_of b) rank) where
   -- no rule below it lists a place
   kept_below : KeptBelow i p rank
   kept_below = record { each = λ k below. go k below (covers.each k (omega (arith, r.within))) }
@@ -187,15 +172,15 @@ module _ {i : Instance} {p : List Stack} {b : Breach} {asked : Asked} {f : Findi
       go : (k : ℕ) → k < rank → (on_stack (rule_at k) ≡ true) ⊎ (is_asked asked (rule_at k) ≡ true) → rule_places (rule_at k) i p ≡ []
       go k below (inl s) = first.kept k (omega (arith, r.within)) s
       go k below (inr a) =
-          let early = beforehand f k (omega (arith, r.within, first.upto)) (λ j less. r.kept j (omega arith)) in
+          let early = beforehand f k (omega (arith, r.within, upto_rules b first)) (λ j less. r.kept j (omega arith)) in
           told_kept asked i p f (rule_at k) a (tells.each (rule_at k) a early) (r.kept k below)
 
   -- where a rule on single stacks is broken at that rank, it is the first of them
-  on_stacks_lem : rank < rule_count → on_stack (rule_at rank) ≡ true → At b.place ≡ lowest_in (rule_places (rule_at rank) i p)
+  on_stacks_lem : rank < rule_count → on_stack (rule_at rank) ≡ true → Some (place_in (stack_found b)) ≡ lowest_in (rule_places (rule_at rank) i p)
   on_stacks_lem inside s = ⊎_elim here (λ less. absurd (before (rule_at rank) s (r.broken less))) (eq-or-lt_of_le r.within)
     where
-      here : rank ≡ b.rank → At b.place ≡ lowest_in (rule_places (rule_at rank) i p)
-      here e = rw e (first.broken (rw (← e) inside)).1
+      here : rank ≡ rank_of b → Some (place_in (stack_found b)) ≡ lowest_in (rule_places (rule_at rank) i p)
+      here e = rw e (broken_first b first (rw (← e) inside)).1
 
       before : (rule : Rule) → on_stack rule ≡ true → kept_by rule f ≡ false → ⊥
       before (OfStacks rule) s e = true≢false e
@@ -205,15 +190,15 @@ module _ {i : Instance} {p : List Stack} {b : Breach} {asked : Asked} {f : Findi
   -- any other comes before it, and the used trucks tell of it
   told : rank < rule_count → on_stack (rule_at rank) ≡ false → Tells (rule_at rank) i p f × (kept_by (rule_at rank) f ≡ false)
   told inside other =
-      let below : rank < b.rank =
-      ⊎_elim (λ e. absurd (true≢false (sym (first.broken (rw (← e) inside)).0 ∙ rw (← e) other))) (λ less. less) (eq-or-lt_of_le r.within)
+      let below : rank < rank_of b =
+      ⊎_elim (λ e. absurd (true≢false (sym (broken_first b first (rw (← e) inside)).0 ∙ rw (← e) other))) (λ less. less) (eq-or-lt_of_le r.within)
       in
       (⊎_elim (λ s. absurd (true≢false (sym s ∙ other))) (λ a. tells.each (rule_at rank) a (beforehand f rank inside (λ j less. r.kept j less))) (covers.each rank below), r.broken below)
 
   pub surveyed : {used : UsedTrucks} → CountsTrucks i p used.count used.cost
       → SurveyOf i p (record { rank = rank; first = b; found = f; used = used })
   surveyed counts =
-      record { within = omega (arith, r.within, first.upto); kept = kept_below; on_stacks = on_stacks_lem; tells = told; used = counts }
+      record { within = omega (arith, r.within, upto_rules b first); kept = kept_below; on_stacks = on_stacks_lem; tells = told; used = counts }
 
 pub rank_inside : {i : Instance} {p : List Stack} {s : Survey} → SurveyOf i p s → (s.rank ≡ rule_count → ⊥) → s.rank < rule_count
 rank_inside h some = omega (arith, h.within, some)
@@ -221,23 +206,25 @@ rank_inside h some = omega (arith, h.within, some)
 -- by the kind of the rule at that rank
 module _ (i : Instance) (p : List Stack) {s : Survey} (h : SurveyOf i p s) (inside : s.rank < rule_count) where
   abbrev Lowest : Place → Type 0
-  Lowest q = At q ≡ lowest_in (rule_places (rule_at s.rank) i p)
+  Lowest q = Some q ≡ lowest_in (rule_places (rule_at s.rank) i p)
 
-  pub refused : (kept : Answer) {a : Answer} {verdict : ℕ} {q : Place} → a ≡ refusal verdict q → verdict ≡ get_or verdicts s.rank 0 → Lowest q
+  pub refused : (kept : Answer) {a : Answer} {rule : Rule} {q : Place} → a ≡ refusal (verdict_of rule) q → rule ≡ rule_at s.rank → Lowest q
       → a ≡ first_broken loading_rules i p kept
-  refused kept {q = q} ea ev low = ea ∙ ap (λ v. refusal v q) ev ∙ broken_at_rank kept s.rank q inside h.kept low
+  refused kept {q = q} ea er low =
+      ea ∙ ap (λ r. refusal (verdict_of r) q) er ∙ ap (λ v. refusal v q) (verdict_named s.rank inside) ∙ broken_at_rank kept s.rank q inside h.kept low
 
-  pub stack_broken : {rule : Rule} (each : StackRule) → rule ≡ rule_at s.rank → rule ≡ OfStacks each → Lowest s.first.place
-  stack_broken each e k = h.on_stacks inside (rw (← e, k) refl)
+  pub stack_broken : {rule : Rule} (each : StackRule) {f : Option Place} → rule ≡ rule_at s.rank → rule ≡ OfStacks each → f ≡ stack_found s.first
+      → Lowest (place_in f)
+  stack_broken each e k is = rw is (h.on_stacks inside (rw (← e, k) refl))
 
-  pub pair_broken : {rule : Rule} (pair : PairRule) {f : Found} → rule ≡ rule_at s.rank → rule ≡ OfPairs pair → f ≡ lowest_in (rule_places (OfPairs pair) i p)
+  pub pair_broken : {rule : Rule} (pair : PairRule) {f : Option Place} → rule ≡ rule_at s.rank → rule ≡ OfPairs pair → f ≡ lowest_in (rule_places (OfPairs pair) i p)
       → Lowest (place_in f)
   pair_broken pair {f} e k is =
       let kind : rule_at s.rank ≡ OfPairs pair = sym e ∙ k in
       let t = h.tells inside (rw kind refl) in
       rw kind (lowest_broken is (rw kind at t.0) (rw kind at t.1))
 
-  pub truck_broken : {rule : Rule} (each : TruckRule) {f : Found} → rule ≡ rule_at s.rank → rule ≡ OfTrucks each → f ≡ truck_found each s.found
+  pub truck_broken : {rule : Rule} (each : TruckRule) {f : Option Place} → rule ≡ rule_at s.rank → rule ≡ OfTrucks each → f ≡ truck_found each s.found
       → Lowest (place_in f)
   truck_broken each {f} e k is =
       let kind : rule_at s.rank ≡ OfTrucks each = sym e ∙ k in

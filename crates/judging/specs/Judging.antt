@@ -1,13 +1,11 @@
 -- What is asked of the used trucks and what they answer, rule by rule.
-use Rattle.std.specs.Prelude.{◌≡◌, ◌↔◌, ◌⊎◌, Bool, true, false, ◌&&◌, List, [], ℕ, ◌≤◌, ◌<◌, length}
+use Rattle.std.specs.Prelude.{◌≡◌, ◌↔◌, ◌⊎◌, Bool, true, false, ◌&&◌, Option, Some, None, List, [], ℕ, ◌≤◌, ◌<◌, length}
 use Rattle.meaning.specs.declared.Place.{Place}
 use Rattle.meaning.specs.Lists.{sum}
 use Rattle.meaning.specs.Places.{place}
 use Rattle.meaning.specs.Model.{Instance, Stack}
 use Rattle.meaning.specs.Measures.{used_trucks}
 use Rattle.meaning.specs.Verdict.{transport_cost}
-use Rattle.search.specs.declared.Found.{Found}
-use Rattle.search.specs.declared.Found.TheVariants.{At, Nothing}
 use Rattle.search.specs.Lowest.{lowest_in, lower_found}
 use Rattle.rules.specs.declared.Rule.{Rule}
 use Rattle.rules.specs.declared.Rule.TheVariants.{OfStacks, OfPairs, OfTrucks}
@@ -18,6 +16,7 @@ use Rattle.rules.specs.declared.TruckRule.TheVariants.{Unbraced, Overload, Middl
 use Rattle.rules.specs.LoadingRules.{rule_places, on_stack, rule_count, rule_at, KeptBelow}
 use Rattle.placement.specs.declared.Placement.{Placement}
 use Rattle.axles.specs.declared.WeightPlaces.{WeightPlaces}
+use Rattle.stackrules.specs.declared.Breach.{Breach}
 use Rattle.judging.specs.declared.Asked.{Asked}
 use Rattle.judging.specs.declared.Findings.{Findings}
 use Rattle.judging.specs.declared.Survey.{Survey}
@@ -77,16 +76,16 @@ pair_kept Overlap f = f.placement.apart
 pair_kept Order f = f.placement.in_order
 
 -- the lowest place of a rule on all stacks of a used truck
-abbrev pub truck_found : TruckRule → Findings → Found
+abbrev pub truck_found : TruckRule → Findings → Option Place
 truck_found Unbraced f = f.placement.unbraced
 truck_found Overload f = f.weights.overload
 truck_found Middle f = f.weights.middle
 truck_found Rear f = f.weights.rear
 
 -- a search found nothing
-abbrev pub nothing : Found → Bool
-nothing (At p) = false
-nothing Nothing = true
+abbrev pub nothing : Option Place → Bool
+nothing (Some p) = false
+nothing None = true
 
 -- whether a rule is kept, as far as the used trucks tell; of rules on single stacks they tell nothing
 abbrev pub kept_by : Rule → Findings → Bool
@@ -104,8 +103,8 @@ Tells (OfTrucks rule) i p f = truck_found rule f ≡ lowest_in (rule_places (OfT
 abbrev pub no_findings : Findings
 no_findings = record {
   single_pair = true;
-  placement = record { apart = true; in_order = true; unbraced = Nothing };
-  weights = record { overload = Nothing; middle = Nothing; rear = Nothing };
+  placement = record { apart = true; in_order = true; unbraced = None };
+  weights = record { overload = None; middle = None; rear = None };
 }
 
 -- the placement rules on two parts of a plan that share no used truck
@@ -162,15 +161,20 @@ pub record FirstRank (f : Findings) (upto rank : ℕ) : Type 0 where
   pub kept : (k : ℕ) → k < rank → kept_by (rule_at k) f ≡ true
   pub broken : rank < upto → kept_by (rule_at rank) f ≡ false
 
+-- the place that a search found; zeros where it found none
+abbrev pub place_in : Option Place → Place
+place_in (Some p) = p
+place_in None = place 0 0 0
+
+-- where the first broken rule on single stacks is broken
+abbrev pub stack_found : Option Breach → Option Place
+stack_found None = None
+stack_found (Some b) = Some b.place
+
 -- what a survey says of the loading rules: none below its rank is broken, and the rule of that rank is
 pub record SurveyOf (i : Instance) (p : List Stack) (s : Survey) : Type 0 where
   pub within : s.rank ≤ rule_count
   pub kept : KeptBelow i p s.rank
-  pub on_stacks : s.rank < rule_count → on_stack (rule_at s.rank) ≡ true → At s.first.place ≡ lowest_in (rule_places (rule_at s.rank) i p)
+  pub on_stacks : s.rank < rule_count → on_stack (rule_at s.rank) ≡ true → Some (place_in (stack_found s.first)) ≡ lowest_in (rule_places (rule_at s.rank) i p)
   pub tells : s.rank < rule_count → on_stack (rule_at s.rank) ≡ false → Tells (rule_at s.rank) i p s.found × (kept_by (rule_at s.rank) s.found ≡ false)
   pub used : CountsTrucks i p s.used.count s.used.cost
-
--- the place that a search found; zeros where it found none
-abbrev pub place_in : Found → Place
-place_in (At p) = p
-place_in Nothing = place 0 0 0

@@ -4,29 +4,27 @@
 
 ghost use Rattle.std.specs.Prelude.{◌≡◌, ◌↔◌, true, [], ◌+◌, ◌-◌, ◌*◌, ◌≤◌, ◌<◌, length};
 ghost use Rattle.meaning.specs.Measures.{used_by, used_trucks};
-ghost use Rattle.meaning.specs.Rules.{loading_rules, pair_places, single_pair};
-ghost use Rattle.meaning.specs.Table.{instance_in, stacks_in};
+ghost use Rattle.meaning.specs.Rules.{loading_rules};
 ghost use Rattle.meaning.specs.Verdict.{refusal, acceptance, first_broken, transport_cost, cost, verdict_on};
 ghost use Rattle.search.specs.Lowest.{lowest_in};
-ghost use Rattle.rules.specs.LoadingRules.{rule_places, rule_count};
+ghost use Rattle.rules.specs.LoadingRules.{verdict_of, rule_places, rule_count};
 ghost use Rattle.rules.specs.declared.Rule.TheVariants.{OfPairs};
-ghost use Rattle.table.specs.Filled.{Filled};
-ghost use Rattle.manifest.specs.Manifest.{manifest_at, block, HoldsRows, OneTruck};
-ghost use Rattle.placement.specs.Placed.{TruckRows, PlacedRows};
-ghost use Rattle.axles.specs.Weights.{LowestPlaces};
-ghost use Rattle.judging.specs.Judging.{with_placement, with_weights, with_pair_rule, with_truck_rule, with_rule, AskedBelow, joined_placement, joined_weights, TellsAsked, CountsTrucks};
-ghost use Rattle.judging.specs.Judging.{pair_kept, truck_found, kept_by, all_kept, FirstRank, SurveyOf, place_in};
+ghost use Rattle.manifest.specs.Manifest.{manifest_at, block, OneTruck};
+ghost use Rattle.judging.specs.Judging.{with_rule, AskedBelow, joined, TellsAsked, CountsTrucks};
+ghost use Rattle.judging.specs.Judging.{pair_kept, truck_found, kept_by, all_kept, FirstRank, stack_found, SurveyOf, place_in};
+ghost use Rattle.stackrules.specs.StackRules.{rank_of};
+ghost use Rattle.table.specs.Held.{instance_of, stacks_of};
 
 use axles::{WeightPlaces, truck_weights};
 use costs::{plan_cost, truck_cost};
-use manifest::{Block, row, row_word, truck_start, write_manifest};
-use meaning::{Answer, Limits, Place};
+use manifest::{Block, Manifest, row, row_word, truck_start, write_manifest};
+use meaning::{Answer, Place};
 use pairrules::{first_pair, keeps_single_pair, order_by};
 use placement::{Placement, truck_placement};
-use rules::{PairRule, RULES, Rule, TruckRule, rule_at, verdict_at};
-use search::{Found, is_nothing, lower_of};
+use rules::{NOT_ONCE, PairRule, RULES, Rule, TruckRule, rule_at};
+use search::lower_of;
 use stackrules::{Breach, first_on_stacks, lowest_not_once};
-use table::stack_count;
+use table::Table;
 
 // ---- what is asked of the used trucks
 
@@ -38,63 +36,25 @@ struct Asked {
     weights: bool, // 26 to 28
 }
 
-// What is asked, and the placement rules besides.
-fn with_placement(asked: Asked) -> Asked
-    ensures { result ≡ with_placement asked }
-{
-    Asked {
-        single_pair: asked.single_pair,
-        placement: true,
-        weights: asked.weights,
-    }
-}
-
-// What is asked, and the weight rules besides.
-fn with_weights(asked: Asked) -> Asked
-    ensures { result ≡ with_weights asked }
-{
-    Asked {
-        single_pair: asked.single_pair,
-        placement: asked.placement,
-        weights: true,
-    }
-}
-
-// What is asked, and the kind of one rule on pairs besides.
-fn with_pair_rule(asked: Asked, rule: PairRule) -> Asked
-    ensures { result ≡ with_pair_rule asked rule }
-{
-    match rule {
-        PairRule::SecondPair => Asked {
-            single_pair: true,
-            placement: asked.placement,
-            weights: asked.weights,
-        },
-        PairRule::Overlap => with_placement(asked),
-        PairRule::Order => with_placement(asked),
-    }
-}
-
-// What is asked, and the kind of one rule on all stacks of a used truck besides.
-fn with_truck_rule(asked: Asked, rule: TruckRule) -> Asked
-    ensures { result ≡ with_truck_rule asked rule }
-{
-    match rule {
-        TruckRule::Unbraced => with_placement(asked),
-        TruckRule::Overload => with_weights(asked),
-        TruckRule::Middle => with_weights(asked),
-        TruckRule::Rear => with_weights(asked),
-    }
-}
-
 // What is asked, and the kind of one rule besides. A rule on single stacks is not asked of the used trucks.
 fn with_rule(asked: Asked, rule: Rule) -> Asked
     ensures { result ≡ with_rule asked rule }
 {
     match rule {
         Rule::OfStacks(_) => asked,
-        Rule::OfPairs(pair) => with_pair_rule(asked, pair),
-        Rule::OfTrucks(each) => with_truck_rule(asked, each),
+        Rule::OfPairs(PairRule::SecondPair) => Asked {
+            single_pair: true,
+            ..asked
+        },
+        Rule::OfPairs(PairRule::Overlap | PairRule::Order) | Rule::OfTrucks(TruckRule::Unbraced) =>
+            Asked {
+                placement: true,
+                ..asked
+            },
+        Rule::OfTrucks(TruckRule::Overload | TruckRule::Middle | TruckRule::Rear) => Asked {
+            weights: true,
+            ..asked
+        },
     }
 }
 
@@ -116,10 +76,8 @@ fn kinds_below(rank: usize) -> Asked
         placement: false,
         weights: false,
     };
-    let mut k = 0;
-    while k < rank {
+    for k in 0..rank {
         asked = with_rule(asked, rule_at(k));
-        k += 1;
     }
     asked
 }
@@ -148,146 +106,111 @@ struct TrucksAsked {
     used: UsedTrucks,
 }
 
-// The placement rules on two parts of a plan that share no used truck.
-fn joined_placement(a: Placement, b: Placement) -> Placement
-    ensures { result ≡ joined_placement a b }
+// What no used truck breaks.
+const ALL_KEPT: Findings = Findings {
+    single_pair: true,
+    placement: Placement {
+        apart: true,
+        in_order: true,
+        unbraced: None,
+    },
+    weights: WeightPlaces {
+        overload: None,
+        middle: None,
+        rear: None,
+    },
+};
+
+// The findings on two parts of a plan that share no used truck.
+fn joined(a: Findings, b: Findings) -> Findings
+    ensures { result ≡ joined a b }
 {
-    let first = a.unbraced;
-    let second = b.unbraced;
-    Placement {
-        apart: a.apart & b.apart,
-        in_order: a.in_order & b.in_order,
-        unbraced: lower_of(first, second),
+    Findings {
+        single_pair: a.single_pair & b.single_pair,
+        placement: Placement {
+            apart: a.placement.apart & b.placement.apart,
+            in_order: a.placement.in_order & b.placement.in_order,
+            unbraced: lower_of(a.placement.unbraced, b.placement.unbraced),
+        },
+        weights: WeightPlaces {
+            overload: lower_of(a.weights.overload, b.weights.overload),
+            middle: lower_of(a.weights.middle, b.weights.middle),
+            rear: lower_of(a.weights.rear, b.weights.rear),
+        },
     }
 }
 
-// The weight rules on two parts of a plan that share no used truck.
-fn joined_weights(a: WeightPlaces, b: WeightPlaces) -> WeightPlaces
-    ensures { result ≡ joined_weights a b }
-{
-    let overload = a.overload;
-    let middle = a.middle;
-    let rear = a.rear;
-    let other_overload = b.overload;
-    let other_middle = b.middle;
-    let other_rear = b.rear;
-    WeightPlaces {
-        overload: lower_of(overload, other_overload),
-        middle: lower_of(middle, other_middle),
-        rear: lower_of(rear, other_rear),
-    }
-}
-
-// Rule 17 on one used truck, where it is asked.
-fn asked_single_pair(asked: bool, t: &[u32], limits: Limits, rows: &[u32], on: Block) -> bool
-    requires { HoldsRows limits t.now rows.now × OneTruck (stacks_in limits t.now) on.start on.end }
-    ensures { asked ≡ true → (result ≡ true) ↔ (pair_places single_pair (instance_in limits t.now)
-        (block (stacks_in limits t.now) on.start on.end) ≡ []) }
-{
-    if asked {
-        return keeps_single_pair(t, limits, rows, on);
-    }
-    true
-}
-
-// The placement rules on one used truck, where they are asked. The keys and the places along the trailer are scratch.
-fn asked_placement(
-    asked: bool,
-    rows: &[u32],
+// What one used truck keeps and breaks, of the kinds that are asked. The keys and the places along the trailer are scratch.
+fn ask_truck(
+    asked: Asked,
+    manifest: Manifest<'_>,
     on: Block,
     keys: &mut [u64],
     along: &mut [u32],
-) -> Placement
-    requires { TruckRows rows.now on × (on.end - on.start ≤ length keys.old) × (on.end - on.start ≤ length along.old) }
-    ensures placed { asked ≡ true → PlacedRows rows.now on result }
+) -> Findings
+    requires { OneTruck (stacks_of manifest.table) on.start on.end × (length (stacks_of manifest.table) ≤ length keys.old) × (length (stacks_of manifest.table) ≤ length along.old) }
+    ensures told { TellsAsked asked (instance_of manifest.entry.table) (block (stacks_of manifest.entry.table) on.start on.end) result }
     ensures lengths { (length keys.new ≡ length keys.old) × (length along.new ≡ length along.old) }
 {
-    if asked {
-        return truck_placement(rows, on, keys, along);
-    }
-    Placement {
-        apart: true,
-        in_order: true,
-        unbraced: Found::Nothing,
-    }
-}
-
-// The weight rules on one used truck, where they are asked.
-fn asked_weights(asked: bool, t: &[u32], limits: Limits, rows: &[u32], on: Block) -> WeightPlaces
-    requires { HoldsRows limits t.now rows.now × OneTruck (stacks_in limits t.now) on.start on.end }
-    ensures { asked ≡ true → LowestPlaces (instance_in limits t.now)
-        (block (stacks_in limits t.now) on.start on.end) result }
-{
-    if asked {
-        return truck_weights(t, limits, rows, on);
-    }
-    WeightPlaces {
-        overload: Found::Nothing,
-        middle: Found::Nothing,
-        rear: Found::Nothing,
+    let single_pair = if asked.single_pair {
+        keeps_single_pair(manifest, on)
+    } else {
+        ALL_KEPT.single_pair
+    };
+    let placement = if asked.placement {
+        truck_placement(manifest.rows, on, keys, along)
+    } else {
+        ALL_KEPT.placement
+    };
+    let weights = if asked.weights {
+        truck_weights(manifest, on)
+    } else {
+        ALL_KEPT.weights
+    };
+    Findings {
+        single_pair,
+        placement,
+        weights,
     }
 }
 
 // The used trucks with one more, whose stacks begin at place `start`.
-fn with_truck(used: UsedTrucks, t: &[u32], limits: Limits, rows: &[u32], start: usize) -> UsedTrucks
-    requires { HoldsRows limits t.now rows.now × (start < length (stacks_in limits t.now)) × (used.count ≤ 2097152)
-        × (used.cost ≤ 4194304000000000) }
-    ensures { (result.count ≡ used.count + 1) × (result.cost ≡ transport_cost (instance_in limits t.now)
-        (used_by (manifest_at (stacks_in limits t.now) start)) + used.cost) × (result.cost ≤ used.cost + 2000000000) }
+fn with_truck(used: UsedTrucks, manifest: Manifest<'_>, start: usize) -> UsedTrucks
+    requires { (start < length (stacks_of manifest.table)) × (used.count ≤ 2097152) × (used.cost ≤ 4194304000000000) }
+    ensures { (result.count ≡ used.count + 1) × (result.cost ≡ transport_cost (instance_of manifest.entry.table)
+        (used_by (manifest_at (stacks_of manifest.entry.table) start)) + used.cost) × (result.cost ≤ used.cost + 2000000000) }
 {
-    let truck = row_word(rows, start, row::TRUCK);
-    let copy = row_word(rows, start, row::COPY);
+    let truck = row_word(manifest.rows, start, row::TRUCK);
+    let copy = row_word(manifest.rows, start, row::COPY);
     UsedTrucks {
         count: used.count + 1,
-        cost: truck_cost(t, limits, truck, copy) + used.cost,
+        cost: truck_cost(manifest.table, truck, copy) + used.cost,
     }
 }
 
-// The used trucks, from the last to the first, each asked once for all that is asked. The keys and the places along the trailer are scratch.
+// The used trucks, from the last to the first, each asked once for all that is asked. The walk goes from block to block, so that no range
+// counts it. The keys and the places along the trailer are scratch.
 fn ask_trucks(
     asked: Asked,
-    t: &[u32],
-    limits: Limits,
-    rows: &[u32],
+    manifest: Manifest<'_>,
     keys: &mut [u64],
     along: &mut [u32],
 ) -> TrucksAsked
-    requires { HoldsRows limits t.now rows.now × (length (stacks_in limits t.now) ≤ length keys.old)
-        × (length (stacks_in limits t.now) ≤ length along.old) }
-    ensures told { TellsAsked asked (instance_in limits t.now) (stacks_in limits t.now) result.found
-        × CountsTrucks (instance_in limits t.now) (stacks_in limits t.now) result.used.count result.used.cost }
+    requires { (length (stacks_of manifest.table) ≤ length keys.old) × (length (stacks_of manifest.table) ≤ length along.old) }
+    ensures told { TellsAsked asked (instance_of manifest.entry.table) (stacks_of manifest.entry.table) result.found
+        × CountsTrucks (instance_of manifest.entry.table) (stacks_of manifest.entry.table) result.used.count result.used.cost }
     ensures lengths { (length keys.new ≡ length keys.old) × (length along.new ≡ length along.old) }
 {
-    let mut single_pair = true;
-    let mut placement = Placement {
-        apart: true,
-        in_order: true,
-        unbraced: Found::Nothing,
-    };
-    let mut weights = WeightPlaces {
-        overload: Found::Nothing,
-        middle: Found::Nothing,
-        rear: Found::Nothing,
-    };
+    let mut found = ALL_KEPT;
     let mut used = UsedTrucks { count: 0, cost: 0 };
-    let mut end = stack_count(t, limits);
+    let mut end = manifest.table.stack_count();
     while 0 < end {
-        let start = truck_start(rows, end);
+        let start = truck_start(manifest.rows, end);
         let on = Block { start, end };
-        single_pair = asked_single_pair(asked.single_pair, t, limits, rows, on) & single_pair;
-        placement = joined_placement(
-            asked_placement(asked.placement, rows, on, keys, along),
-            placement,
-        );
-        weights = joined_weights(asked_weights(asked.weights, t, limits, rows, on), weights);
-        used = with_truck(used, t, limits, rows, start);
+        found = joined(ask_truck(asked, manifest, on, keys, along), found);
+        used = with_truck(used, manifest, start);
         end = start;
     }
-    let found = Findings {
-        single_pair,
-        placement,
-        weights,
-    };
     TrucksAsked { found, used }
 }
 
@@ -297,25 +220,22 @@ fn ask_trucks(
 fn pair_kept(rule: PairRule, found: Findings) -> bool
     ensures { result ≡ pair_kept rule found }
 {
-    let placement = found.placement;
     match rule {
         PairRule::SecondPair => found.single_pair,
-        PairRule::Overlap => placement.apart,
-        PairRule::Order => placement.in_order,
+        PairRule::Overlap => found.placement.apart,
+        PairRule::Order => found.placement.in_order,
     }
 }
 
 // The lowest place of a rule on all stacks of a used truck.
-fn truck_found(rule: TruckRule, found: Findings) -> Found
+fn truck_found(rule: TruckRule, found: Findings) -> Option<Place>
     ensures { result ≡ truck_found rule found }
 {
-    let placement = found.placement;
-    let weights = found.weights;
     match rule {
-        TruckRule::Unbraced => placement.unbraced,
-        TruckRule::Overload => weights.overload,
-        TruckRule::Middle => weights.middle,
-        TruckRule::Rear => weights.rear,
+        TruckRule::Unbraced => found.placement.unbraced,
+        TruckRule::Overload => found.weights.overload,
+        TruckRule::Middle => found.weights.middle,
+        TruckRule::Rear => found.weights.rear,
     }
 }
 
@@ -326,7 +246,7 @@ fn is_kept(rule: Rule, found: Findings) -> bool
     match rule {
         Rule::OfStacks(_) => true,
         Rule::OfPairs(pair) => pair_kept(pair, found),
-        Rule::OfTrucks(each) => is_nothing(truck_found(each, found)),
+        Rule::OfTrucks(each) => truck_found(each, found).is_none(),
     }
 }
 
@@ -334,16 +254,13 @@ fn is_kept(rule: Rule, found: Findings) -> bool
 fn all_kept(found: Findings) -> bool
     ensures { result ≡ all_kept found }
 {
-    let placement = found.placement;
-    let unbraced = placement.unbraced;
-    let weights = found.weights;
-    let overload = weights.overload;
-    let middle = weights.middle;
-    let rear = weights.rear;
-    (((((found.single_pair & placement.apart) & placement.in_order) & is_nothing(unbraced))
-        & is_nothing(overload))
-        & is_nothing(middle))
-        & is_nothing(rear)
+    found.single_pair
+        & found.placement.apart
+        & found.placement.in_order
+        & found.placement.unbraced.is_none()
+        & found.weights.overload.is_none()
+        & found.weights.middle.is_none()
+        & found.weights.rear.is_none()
 }
 
 // The rank of the first rule that the used trucks break, of those below `upto`; `upto` where there is none, as in most plans.
@@ -354,36 +271,31 @@ fn first_rank(found: Findings, upto: usize) -> usize
     if all_kept(found) {
         return upto;
     }
-    let mut rank = 0;
-    while rank < upto {
+    for rank in 0..upto {
         if !is_kept(rule_at(rank), found) {
             return rank;
         }
-        rank += 1;
     }
-    rank
+    upto
 }
 
 // The lowest pair that breaks a rule. The keys and the order are scratch.
 fn lowest_pair(
     rule: PairRule,
-    t: &[u32],
-    limits: Limits,
-    rows: &[u32],
+    manifest: Manifest<'_>,
     keys: &mut [u64],
     order: &mut [u32],
-) -> Found
-    requires { HoldsRows limits t.now rows.now × (length (stacks_in limits t.now) ≤ length keys.old)
-        × (length (stacks_in limits t.now) ≤ length order.old) }
-    ensures { result ≡ lowest_in (rule_places (OfPairs rule) (instance_in limits t.now) (stacks_in limits t.now)) }
+) -> Option<Place>
+    requires { (length (stacks_of manifest.table) ≤ length keys.old) × (length (stacks_of manifest.table) ≤ length order.old) }
+    ensures { result ≡ lowest_in (rule_places (OfPairs rule) (instance_of manifest.entry.table) (stacks_of manifest.entry.table)) }
 {
-    let count = stack_count(t, limits);
+    let count = manifest.table.stack_count();
     let all = Block {
         start: 0,
         end: count,
     };
-    order_by(rows, all, row::NUMBER, keys, order);
-    first_pair(rule, t, limits, rows, order)
+    order_by(manifest.rows, all, row::NUMBER, keys, order);
+    first_pair(rule, manifest, order)
 }
 
 // The answer on a broken rule.
@@ -400,32 +312,30 @@ fn refuse(verdict: u32, place: Place) -> Answer
     }
 }
 
-// The place that a search found.
-fn place_in(found: Found) -> Place
-    ensures { result ≡ place_in found }
+// The answer by a broken rule and the lowest place that a search found for it.
+fn refuse_by(rule: Rule, found: Option<Place>) -> Answer
+    ensures { result ≡ refusal (verdict_of rule) (place_in found) }
 {
-    match found {
-        Found::At(place) => place,
-        Found::Nothing => Place {
-            first: 0,
-            second: 0,
-            third: 0,
-        },
-    }
+    let none = Place {
+        first: 0,
+        second: 0,
+        third: 0,
+    };
+    refuse(rule.verdict(), found.unwrap_or(none))
 }
 
 // The answer on a plan that keeps every rule.
-fn accept(t: &[u32], limits: Limits, used: UsedTrucks) -> Answer
-    requires { Filled limits t.now × CountsTrucks (instance_in limits t.now) (stacks_in limits t.now) used.count used.cost }
-    ensures { result ≡ acceptance (cost (instance_in limits t.now) (stacks_in limits t.now))
-        (length (used_trucks (stacks_in limits t.now))) }
+fn accept(table: Table<'_>, used: UsedTrucks) -> Answer
+    requires { CountsTrucks (instance_of table) (stacks_of table) used.count used.cost }
+    ensures { result ≡ acceptance (cost (instance_of table.entry) (stacks_of table.entry))
+        (length (used_trucks (stacks_of table.entry))) }
 {
     Answer {
         number: 0,
         first: 0,
         second: 0,
         third: 0,
-        cost: plan_cost(t, limits, used.cost),
+        cost: plan_cost(table, used.cost),
         trucks: used.count,
     }
 }
@@ -434,30 +344,36 @@ fn accept(t: &[u32], limits: Limits, used: UsedTrucks) -> Answer
 #[derive(Clone, Copy)]
 struct Survey {
     rank: usize,
-    first: Breach, // the first broken rule on single stacks
+    first: Option<Breach>, // the first broken rule on single stacks
     found: Findings,
     used: UsedTrucks,
 }
 
+// The rank of a broken rule, or the number of rules.
+fn rank_of(first: Option<Breach>) -> usize
+    ensures { result ≡ rank_of first }
+{
+    first.map_or(RULES, |breach| breach.rank)
+}
+
+// The place of a broken rule on single stacks.
+fn stack_found(first: Option<Breach>) -> Option<Place>
+    ensures { result ≡ stack_found first }
+{
+    first.map(|breach| breach.place)
+}
+
 // The rules on single stacks are asked first, in one walk; of the others only those that come before the first one broken there.
-fn survey_plan(
-    t: &[u32],
-    limits: Limits,
-    rows: &[u32],
-    keys: &mut [u64],
-    along: &mut [u32],
-) -> Survey
-    requires { HoldsRows limits t.now rows.now × (length (stacks_in limits t.now) ≤ length keys.old)
-        × (length (stacks_in limits t.now) ≤ length along.old) }
-    ensures told { SurveyOf (instance_in limits t.now) (stacks_in limits t.now) result }
+fn survey_plan(manifest: Manifest<'_>, keys: &mut [u64], along: &mut [u32]) -> Survey
+    requires { (length (stacks_of manifest.table) ≤ length keys.old) × (length (stacks_of manifest.table) ≤ length along.old) }
+    ensures told { SurveyOf (instance_of manifest.entry.table) (stacks_of manifest.entry.table) result }
     ensures lengths { (length keys.new ≡ length keys.old) × (length along.new ≡ length along.old) }
 {
-    let first = first_on_stacks(t, limits, rows);
-    let trucks = ask_trucks(kinds_below(first.rank), t, limits, rows, keys, along);
-    let found = trucks.found;
-    let used = trucks.used;
+    let first = first_on_stacks(manifest);
+    let upto = rank_of(first);
+    let TrucksAsked { found, used } = ask_trucks(kinds_below(upto), manifest, keys, along);
     Survey {
-        rank: first_rank(found, first.rank),
+        rank: first_rank(found, upto),
         first,
         found,
         used,
@@ -465,58 +381,33 @@ fn survey_plan(
 }
 
 // The verdict by the loading rules, each over the whole plan before the next. The keys and the order are scratch.
-fn judge_loading(
-    t: &[u32],
-    limits: Limits,
-    rows: &[u32],
-    keys: &mut [u64],
-    order: &mut [u32],
-) -> Answer
-    requires { HoldsRows limits t.now rows.now × (length (stacks_in limits t.now) ≤ length keys.old)
-        × (length (stacks_in limits t.now) ≤ length order.old) }
-    ensures { result ≡ first_broken loading_rules (instance_in limits t.now) (stacks_in limits t.now)
-        (acceptance (cost (instance_in limits t.now) (stacks_in limits t.now))
-        (length (used_trucks (stacks_in limits t.now)))) }
+fn judge_loading(manifest: Manifest<'_>, keys: &mut [u64], order: &mut [u32]) -> Answer
+    requires { (length (stacks_of manifest.table) ≤ length keys.old) × (length (stacks_of manifest.table) ≤ length order.old) }
+    ensures { result ≡ first_broken loading_rules (instance_of manifest.entry.table) (stacks_of manifest.entry.table)
+        (acceptance (cost (instance_of manifest.entry.table) (stacks_of manifest.entry.table))
+        (length (used_trucks (stacks_of manifest.entry.table)))) }
 {
-    let told = survey_plan(t, limits, rows, keys, order);
-    let rank = told.rank;
-    if rank == RULES {
-        let used = told.used;
-        return accept(t, limits, used);
+    let told = survey_plan(manifest, keys, order);
+    if told.rank == RULES {
+        return accept(manifest.table, told.used);
     }
-    let first = told.first;
-    let found = told.found;
-    let verdict = verdict_at(rank);
-    let rule = rule_at(rank);
+    let rule = rule_at(told.rank);
     match rule {
-        Rule::OfStacks(_) => refuse(verdict, first.place),
-        Rule::OfPairs(pair) => {
-            let lowest = lowest_pair(pair, t, limits, rows, keys, order);
-            refuse(verdict, place_in(lowest))
-        }
-        Rule::OfTrucks(each) => refuse(verdict, place_in(truck_found(each, found))),
+        Rule::OfStacks(_) => refuse_by(rule, stack_found(told.first)),
+        Rule::OfPairs(pair) => refuse_by(rule, lowest_pair(pair, manifest, keys, order)),
+        Rule::OfTrucks(each) => refuse_by(rule, truck_found(each, told.found)),
     }
 }
 
 // The verdict on the plan of a filled table. The other slices are lent for the search alone: a word for each item and for each stack, and for
 // each stack a key and the words of its row. What stands in them before and afterwards does not matter.
-pub fn judge(
-    t: &[u32],
-    limits: Limits,
-    keys: &mut [u64],
-    order: &mut [u32],
-    rows: &mut [u32],
-) -> Answer
-    requires { Filled limits t.now × (length (instance_in limits t.now).items ≤ length order.old)
-        × (length (stacks_in limits t.now) ≤ length keys.old) × (length (stacks_in limits t.now) ≤ length order.old)
-        × (16 * length (stacks_in limits t.now) ≤ length rows.old) }
-    ensures { result ≡ verdict_on (instance_in limits t.now) (stacks_in limits t.now) }
+pub fn judge(table: Table<'_>, keys: &mut [u64], order: &mut [u32], rows: &mut [u32]) -> Answer
+    requires { (length (instance_of table).items ≤ length order.old) × (length (stacks_of table) ≤ length keys.old) × (length (stacks_of table) ≤ length order.old) × (16 * length (stacks_of table) ≤ length rows.old) }
+    ensures { result ≡ verdict_on (instance_of table.entry) (stacks_of table.entry) }
 {
-    let found = lowest_not_once(t, limits, order);
-    match found {
-        Found::At(place) => return refuse(9, place),
-        Found::Nothing => {}
+    if let Some(place) = lowest_not_once(table, order) {
+        return refuse(NOT_ONCE, place);
     }
-    write_manifest(t, limits, keys, order, rows);
-    judge_loading(t, limits, rows, keys, order)
+    write_manifest(table, keys, order, rows);
+    judge_loading(Manifest { table, rows }, keys, order)
 }

@@ -2,15 +2,15 @@
 use mathlib.Core.Path.{◌≡◌, refl, sym, ap, subst, ◌∙◌}
 use mathlib.Core.List.{List, [], ◌∷◌, ◌++◌, append_assoc, append-nil}
 use Prim.Native.Nat.{ℕ, zero, suc}
-use native.Mathlib.Omega.{arith}
 use lib.ListN.{length, drop}
 use Rattle.meaning.specs.Text.{Form}
 use Rattle.meaning.specs.Reader.{Outcome, found, wrong_form, out_of_range, Reader, give, onward, ◌>>=◌, line, times}
 use Rattle.meaning.specs.Meets.{Meets}
 use Rattle.meaning.proofs.Outcomes.{Leaves, leaves_onward, leaves_line}
-use Rattle.lines.specs.declared.Progress.{Progress}
-use Rattle.lines.specs.declared.Progress.TheVariants.{Next, WrongForm, OutOfRange}
-use Rattle.lines.specs.Progress.{reached, resumed, Going, ReadInto}
+use Rattle.std.specs.Prelude.{Ok, Err, IsErrAnd}
+use Rattle.lines.specs.declared.LineRefused.{LineRefused}
+use Rattle.lines.specs.declared.LineRefused.TheVariants.{WrongForm, OutOfRange}
+use Rattle.lines.specs.Progress.{Progress, outcome_of, reached, resumed, Going, ReadInto}
 
 -- ---- outcomes
 -- going on in the same way
@@ -40,6 +40,12 @@ onward_give (found a n bs) = refl
 onward_give (wrong_form n) = refl
 onward_give (out_of_range n) = refl
 
+-- a refusal stays as it is
+pub onward_refused : {A B : Type 0} (e : LineRefused) (f : A → Reader B) → onward (outcome_of e) f ≡ outcome_of e
+unfolding onward
+onward_refused (WrongForm n) f = refl
+onward_refused (OutOfRange n) f = refl
+
 -- what comes behind a reader, whatever that finds
 pub leaves_then : {A B : Type 0} (P : B → Type 0) (x : Outcome A) (next : A → Reader B) → ((a : A) (n : ℕ) (bs : List ℕ) → Leaves (λ b rest. P b) (next a n bs))
     → Leaves (λ b rest. P b) (onward x next)
@@ -53,33 +59,27 @@ module _ {A : Type 0} (file : List ℕ) where
   -- from what is reached on, the value is known
   pub onward_reached : {B : Type 0} (a : A) (q : Progress) (next : A → Reader B) → onward (reached file a q) next ≡ resumed file q (next a)
   unfolding onward
-  onward_reached a (Next c) next = refl
-  onward_reached a (WrongForm n) next = refl
-  onward_reached a (OutOfRange n) next = refl
+  onward_reached a (Ok c) next = refl
+  onward_reached a (Err e) next = onward_refused e next
 
   -- past the first reader of a block
   pub past_reader : {B : Type 0} (p q : Progress) (a : A) (reader : Reader A) (next : A → Reader B) → reached file a q ≡ resumed file p reader
       → resumed file p (reader >>= next) ≡ resumed file q (next a)
   unfolding onward
-  past_reader {B} (Next c) q a reader next e = ap {B = Outcome B} (λ x. onward x next) (sym e) ∙ onward_reached a q next
-  past_reader {B} (WrongForm n) q a reader next e = ap {B = Outcome B} (λ x. onward x next) (sym e) ∙ onward_reached a q next
-  past_reader {B} (OutOfRange n) q a reader next e = ap {B = Outcome B} (λ x. onward x next) (sym e) ∙ onward_reached a q next
+  past_reader {B} (Ok c) q a reader next e = ap {B = Outcome B} (λ x. onward x next) (sym e) ∙ onward_reached a q next
+  past_reader {B} (Err r) q a reader next e = sym (onward_refused r next) ∙ ap {B = Outcome B} (λ x. onward x next) (sym e) ∙ onward_reached a q next
 
   -- a block that only gives a value has reached it
   pub given_reached : (a : A) (q : Progress) → resumed file q (give a) ≡ reached file a q
-  given_reached a (Next c) = refl
-  given_reached a (WrongForm n) = refl
-  given_reached a (OutOfRange n) = refl
+  given_reached a (Ok c) = refl
+  given_reached a (Err e) = refl
 
 -- a refusal stays: where none came out, none came in
 going_before : {B : Type 0} (file : List ℕ) (b : B) (p q : Progress) (R : Reader B) → reached file b q ≡ resumed file p R → Going q → Going p
-going_before file b (Next c) q R e g = tt
-going_before file b (WrongForm n) (Next d) R e g = let z : ◌≡◌ {A = ℕ} 0 1 = cc in omega arith
-going_before file b (WrongForm n) (WrongForm n') R e g = g
-going_before file b (WrongForm n) (OutOfRange n') R e g = g
-going_before file b (OutOfRange n) (Next d) R e g = let z : ◌≡◌ {A = ℕ} 0 1 = cc in omega arith
-going_before file b (OutOfRange n) (WrongForm n') R e g = g
-going_before file b (OutOfRange n) (OutOfRange n') R e g = g
+going_before file b (Ok c) q R e g = tt
+going_before file b (Err (WrongForm n)) (Ok d) R e g = cc
+going_before file b (Err (OutOfRange n)) (Ok d) R e g = cc
+going_before file b (Err r) (Err r') R e g = g
 
 pub no_refusal : {A : Type 0} {file : List ℕ} {reader : Reader A} {words : A → List ℕ} {p q : Progress} {out : List ℕ}
     → ReadInto file reader words p q out → Going q → Going p
@@ -87,25 +87,21 @@ no_refusal {file = file} {reader = reader} {p = p} {q = q} i g = going_before fi
 
 -- after a refusal the value does not matter
 pub same_reached : {A : Type 0} (file : List ℕ) (a b : A) (p : Progress) → (Going p → a ≡ b) → reached file a p ≡ reached file b p
-same_reached file a b (Next c) h = rw (h tt) refl
-same_reached file a b (WrongForm n) h = refl
-same_reached file a b (OutOfRange n) h = refl
+same_reached file a b (Ok c) h = rw (h tt) refl
+same_reached file a b (Err e) h = refl
 
 -- nor does the reader
 pub same_resumed : {A : Type 0} (file : List ℕ) (p : Progress) (reader reader' : Reader A) → (Going p → reader ≡ reader')
     → resumed file p reader ≡ resumed file p reader'
-same_resumed {A} file (Next c) reader reader' h = ap (λ (r : Reader A). r (suc c.line) (drop c.at file)) (h tt)
-same_resumed file (WrongForm n) reader reader' h = refl
-same_resumed file (OutOfRange n) reader reader' h = refl
+same_resumed {A} file (Ok c) reader reader' h = ap (λ (r : Reader A). r (suc c.line) (drop c.at file)) (h tt)
+same_resumed file (Err e) reader reader' h = refl
 
 -- what a reader always leaves is so of what was read
 pub read_has : {A : Type 0} (file : List ℕ) (a : A) (P : A → Type 0) (p q : Progress) (reader : Reader A) → ((n : ℕ) (bs : List ℕ) → Leaves (λ x rest. P x) (reader n bs))
     → reached file a q ≡ resumed file p reader → Going q → P a
-read_has file a P (Next c) (Next d) reader h e g = subst (Leaves (λ x rest. P x)) (sym e) (h (suc c.line) (drop c.at file))
-read_has file a P (Next c) (WrongForm n') reader h e g = absurd g
-read_has file a P (Next c) (OutOfRange n') reader h e g = absurd g
-read_has file a P (WrongForm n) q reader h e g = absurd (going_before file a (WrongForm n) q reader e g)
-read_has file a P (OutOfRange n) q reader h e g = absurd (going_before file a (OutOfRange n) q reader e g)
+read_has file a P (Ok c) (Ok d) reader h e g = subst (Leaves (λ x rest. P x)) (sym e) (h (suc c.line) (drop c.at file))
+read_has file a P (Ok c) (Err r) reader h e g = absurd g
+read_has file a P (Err r) q reader h e g = absurd (going_before file a (Err r) q reader e g)
 
 -- the entries of a line that was not refused meet its form
 pub read_meets : (file ns : List ℕ) (f : Form) (p r : Progress) → reached file ns r ≡ resumed file p (line f) → Going r → Meets f ns
@@ -116,6 +112,43 @@ pub read_within : {A : Type 0} (file : List ℕ) (reader : Reader A) (words : A 
     → ReadInto file reader words p r out → ReadInto file reader (λ a. whole (words a)) p r (whole out)
 read_within file reader words p r out whole i =
     record { value = i.value; says = i.says; holds = λ g. ap whole (i.holds g); within = i.within }
+
+-- ---- a reader and then those behind it
+-- what is read behind the first reader is read from where that began
+abbrev pub behind : {A B : Type 0} {file : List ℕ} {R : Reader A} {w : A → List ℕ} {p q : Progress} {front : List ℕ} (first : ReadInto file R w p q front)
+    (next : A → Reader B) → {w' : B → List ℕ} {r : Progress} {out : List ℕ} → ReadInto file (next first.value) w' q r out → ReadInto file (R >>= next) w' p r out
+behind {file = file} {R = R} {p = p} {q = q} first next rest = record {
+  value = rest.value;
+  says = rest.says ∙ sym (past_reader file p q first.value R next first.says);
+  holds = rest.holds;
+  within = rest.within;
+}
+
+-- nothing is read behind the last one
+abbrev pub behind_last : {A B : Type 0} {file : List ℕ} {R : Reader A} {w : A → List ℕ} {p q : Progress} {front : List ℕ} (last : ReadInto file R w p q front)
+    (f : A → B) → {w' : B → List ℕ} {out : List ℕ} → (Going q → out ≡ w' (f last.value)) → ReadInto file (R >>= λ a. give (f a)) w' p q out
+behind_last {file = file} {R = R} {p = p} {q = q} last f stands = record {
+  value = f last.value;
+  says = sym (past_reader file p q last.value R (λ a. give (f a)) last.says ∙ given_reached file (f last.value) q);
+  holds = stands;
+  within = last.within;
+}
+
+-- a refusal of the first reader is one of all, and nothing is said of the words then
+pub stopped : {A B : Type 0} {file : List ℕ} {R : Reader A} {w : A → List ℕ} {p : Progress} {e : LineRefused} {front : List ℕ}
+    → ReadInto file R w p (Err e) front → (next : A → Reader B) → B → {w' : B → List ℕ} {out : List ℕ} → ReadInto file (R >>= next) w' p (Err e) out
+stopped {file = file} {R = R} {p = p} {e = e} first next b = record {
+  value = b;
+  says = sym (past_reader file p (Err e) first.value R next first.says);
+  holds = λ g. absurd g;
+  within = first.within;
+}
+
+-- what a `?` hands on is the refusal
+pub handed_on : {A : Type 0} {file : List ℕ} {R : Reader A} {w : A → List ℕ} {p r : Progress} {e : LineRefused} {out : List ℕ}
+    → IsErrAnd r (λ x. x ≡ e) → ReadInto file R w p (Err e) out → ReadInto file R w p r out
+handed_on {r = Ok c} h i = absurd h
+handed_on {r = Err x} h i = rw h i
 
 -- ---- the same reader some times over
 module _ {A : Type 0} (R : Reader A) where
@@ -147,9 +180,8 @@ module _ {A : Type 0} (R : Reader A) where
     -- before the first
     pub times_first : (n : ℕ) (p : Progress) → onward (reached file [] p) (more n) ≡ resumed file p (times n R)
     unfolding onward
-    times_first n (Next c) = onward_give (times n R (suc c.line) (drop c.at file))
-    times_first n (WrongForm l) = refl
-    times_first n (OutOfRange l) = refl
+    times_first n (Ok c) = onward_give (times n R (suc c.line) (drop c.at file))
+    times_first n (Err e) = onward_refused e (more n)
 
     -- after one more
     pub times_next : (vs : List A) (v : A) (m : ℕ) (q q' : Progress) → reached file v q' ≡ resumed file q R
@@ -163,6 +195,5 @@ module _ {A : Type 0} (R : Reader A) where
     -- after the last
     pub times_done : (vs : List A) (q : Progress) → onward (reached file vs q) (more 0) ≡ reached file vs q
     unfolding onward times
-    times_done vs (Next c) = rw (append-nil vs) refl
-    times_done vs (WrongForm l) = refl
-    times_done vs (OutOfRange l) = refl
+    times_done vs (Ok c) = rw (append-nil vs) refl
+    times_done vs (Err e) = onward_refused e (more 0)

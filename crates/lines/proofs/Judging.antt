@@ -1,6 +1,6 @@
 -- From a line that is stored to a line that is judged: what the answer then says.
 use mathlib.Core.Path.{◌≡◌, refl, sym, ap, ◌∙◌}
-use mathlib.Core.Bool.{Bool, true, false, cond}
+use mathlib.Core.Bool.{Bool, true, false}
 use mathlib.Core.List.{List, [], ◌∷◌, ◌++◌, append-nil}
 use Prim.Native.Nat.{ℕ, suc, ◌+◌, ◌-◌, ◌≤◌}
 use native.Mathlib.Omega.{arith}
@@ -11,36 +11,34 @@ use Rattle.meaning.specs.Lists.{padded}
 use Rattle.meaning.specs.Text.{Form}
 use Rattle.meaning.specs.Reader.{Reader, line}
 use Rattle.meaning.specs.Table.{counted_words}
-use Rattle.lines.specs.declared.Progress.{Progress}
-use Rattle.lines.specs.declared.Progress.TheVariants.{Next, WrongForm, OutOfRange}
-use Rattle.lines.specs.declared.StoredLine.{StoredLine}
-use Rattle.lines.specs.declared.StoredLine.TheVariants.{Numbers, WrongForm as StoredWrongForm, OutOfRange as StoredOutOfRange}
-use Rattle.lines.specs.declared.EntriesAnswer.{EntriesAnswer}
-use Rattle.lines.specs.Progress.{Going, entries_of, HasNumbers, judged_as, judged_entries_as, JudgedBy, StoredPromise}
-use Rattle.lines.specs.Progress.{unless_refused, ReadInto, ReadEntries}
+use Rattle.std.specs.Prelude.{Ok, Err, IfOk, IsErrAnd}
+use Rattle.lines.specs.declared.LineRefused.{LineRefused}
+use Rattle.lines.specs.declared.LineValue.{LineValue}
+use Rattle.lines.specs.Progress.{Progress, outcome_of, LineResult, progress_of, Going, StoredLine, entries_of, HasNumbers, judged_as, judged_entries_as}
+use Rattle.lines.specs.Progress.{JudgedBy, StoredPromise, ReadInto, ReadEntries}
 use Rattle.lines.proofs.Follow.{read_meets}
 
 -- ---- the cases of a stored line
 -- the test decides nothing where the line was refused
 same_judged : (r : StoredLine) (s t : Bool) → (HasNumbers r → s ≡ t) → judged_as r s ≡ judged_as r t
-same_judged (Numbers n next k) s t h = ap (judged_as (Numbers n next k)) (h tt)
-same_judged (StoredWrongForm n) s t h = refl
-same_judged (StoredOutOfRange n) s t h = refl
+same_judged (Ok l) s t h = ap (judged_as (Ok l)) (h tt)
+same_judged (Err e) s t h = refl
 
 -- a line that is passed has its numbers stored
 has_numbers : (r : StoredLine) (ok : Bool) → Going (judged_as r ok) → HasNumbers r
-has_numbers (Numbers n next k) ok g = tt
-has_numbers (StoredWrongForm n) ok g = g
-has_numbers (StoredOutOfRange n) ok g = g
+has_numbers (Ok l) ok g = tt
+has_numbers (Err e) ok g = g
 
--- the number of entries that the answer gives
-count_judged : (r : StoredLine) (ok : Bool) → cond ok (entries_of r) 0 ≡ unless_refused (judged_as r ok) (entries_of r)
-count_judged (Numbers n next k) true = refl
-count_judged (Numbers n next k) false = refl
-count_judged (StoredWrongForm n) true = refl
-count_judged (StoredWrongForm n) false = refl
-count_judged (StoredOutOfRange n) true = refl
-count_judged (StoredOutOfRange n) false = refl
+-- with the number of entries it is judged in the same way, and that is the number that the answer gives
+entries_judged : (r : StoredLine) (ok : Bool) → progress_of (judged_entries_as r ok) ≡ judged_as r ok
+entries_judged (Ok l) true = refl
+entries_judged (Ok l) false = refl
+entries_judged (Err e) ok = refl
+
+entries_counted : (r : StoredLine) (ok : Bool) (n : ℕ) → entries_of r ≡ n → IfOk (judged_entries_as r ok) (λ f. f.value ≡ n)
+entries_counted (Ok l) true n e = e
+entries_counted (Ok l) false n e = tt
+entries_counted (Err e) ok n h = tt
 
 -- ---- a judged line
 -- `test` says that the form's range test was made on the entries, `stand` how these stand in `out`
@@ -59,16 +57,13 @@ module _ {file : List ℕ} {p : Progress} {key : List ℕ} {least : ℕ} {out₀
 
   pub judged_entries : length out ≡ length out₀ → ReadEntries file (line f) words p (judged_entries_as r ok) out
   unfolding judged_read
-  judged_entries long = record {
-    into = judged_read;
-    count = count_judged r ok ∙ ap (unless_refused (judged_as r ok)) (sym (length-take-le (entries_of r) out (omega (arith, stored.room))));
-  }
-
--- there is room for the entries that are counted
-pub judged_room : {file : List ℕ} {p : Progress} {key : List ℕ} {least : ℕ} {out₀ : List ℕ} {r : StoredLine} {out : List ℕ}
-    → StoredPromise file p key least out₀ r out → (ok : Bool) → (judged_entries_as r ok).count ≤ length out₀
-judged_room stored true = stored.room
-judged_room stored false = omega arith
+  judged_entries long =
+      let q = entries_judged r ok in
+      let many = sym (length-take-le (entries_of r) out (omega (arith, stored.room))) in
+      record {
+        into = record { value = take (entries_of r) out; says = rw q judged_read.says; holds = rw q judged_read.holds; within = rw q judged_read.within };
+        count = entries_counted r ok _ many;
+      }
 
 -- a line that fills its words is judged on all of them, and what was stored is what is read
 pub full_read : {file : List ℕ} {p : Progress} {key : List ℕ} {least : ℕ} {out₀ : List ℕ} {r : StoredLine} {out : List ℕ}
@@ -91,31 +86,20 @@ zeros_behind_lem n k out h l e =
     rw (length-take-le k out (omega arith)) (sym (take-append-drop k out) ∙ ap (λ (w : List ℕ). take k out ++ w) rest)
 
 -- ---- entries and their count
--- it is their number, unless a line was refused
-count_going : (q : Progress) (k : ℕ) → Going q → unless_refused q k ≡ k
-count_going (Next c) k g = refl
-count_going (WrongForm n) k g = absurd g
-count_going (OutOfRange n) k g = absurd g
-
--- and at most as large as theirs
-count_most : (q : Progress) (k most : ℕ) → (Going q → k ≤ most) → unless_refused q k ≤ most
-count_most (Next c) k most h = h tt
-count_most (WrongForm n) k most h = omega arith
-count_most (OutOfRange n) k most h = omega arith
-
-module _ {file : List ℕ} {reader : Reader (List ℕ)} {words : List ℕ → List ℕ} {p : Progress} {r : EntriesAnswer} {out : List ℕ}
-    (read : ReadEntries file reader words p r out) where
-  pub read_count : Going r.progress → r.count ≡ length read.into.value
-  read_count g = read.count ∙ count_going r.progress (length read.into.value) g
-
 -- a line has no more entries than its form allows
-module _ {file : List ℕ} (f : Form) {words : List ℕ → List ℕ} {p : Progress} {r : EntriesAnswer} {out : List ℕ}
-    (read : ReadEntries file (line f) words p r out) where
-  pub few_entries_lem : Going r.progress → length read.into.value ≤ f.most
-  few_entries_lem g = (read_meets file read.into.value f p r.progress read.into.says g).most
+module _ {file : List ℕ} (f : Form) {words : List ℕ → List ℕ} {p : Progress} {found : LineValue ℕ} {out : List ℕ}
+    (read : ReadEntries file (line f) words p (Ok found) out) where
+  pub few_counted : found.value ≤ f.most
+  few_counted = rw read.count (read_meets file read.into.value f p (Ok found.next) read.into.says tt).most
 
-  pub few_counted : r.count ≤ f.most
-  few_counted = rw read.count (count_most r.progress (length read.into.value) f.most few_entries_lem)
+-- what a `?` hands on is the refusal, and nothing is said of the words then
+pub refused_entries : {file : List ℕ} {reader : Reader (List ℕ)} {words words' : List ℕ → List ℕ} {p : Progress} {e : LineRefused} {out out' : List ℕ} (r : LineResult ℕ)
+    → IsErrAnd r (λ x. x ≡ e) → ReadEntries file reader words p (Err e) out → ReadEntries file reader words' p r out'
+refused_entries (Ok f) h i = absurd h
+refused_entries {file = file} (Err x) h i = record {
+  into = record { value = i.into.value; says = ap outcome_of h ∙ i.into.says; holds = λ g. absurd g; within = rw h i.into.within };
+  count = tt;
+}
 
 -- the words behind the first are lent and come back, and the first becomes the count
 counted : (c : ℕ) (out lent : List ℕ) → 1 ≤ length out → set (put_mid 1 (length out - 1) out lent) 0 c ≡ c ∷ lent
@@ -125,10 +109,10 @@ counted c (w ∷ out) lent h =
     let none : drop (suc (length out) - 1) out ≡ [] = drop_of_length-le out end in
     ap (λ (l : List ℕ). c ∷ l) (rw none (append-nil lent))
 
-pub counted_entries : {file : List ℕ} {reader : Reader (List ℕ)} (n : ℕ) {p : Progress} {r : EntriesAnswer} {lent : List ℕ} (out : List ℕ)
-    → 1 ≤ length out → ReadEntries file reader (padded n) p r lent
-    → ReadEntries file reader (counted_words n) p r (set (put_mid 1 (length out - 1) out lent) 0 r.count)
-counted_entries n {r = r} {lent = lent} out h i =
+pub counted_entries : {file : List ℕ} {reader : Reader (List ℕ)} (n : ℕ) {p : Progress} {found : LineValue ℕ} {lent : List ℕ} (out : List ℕ)
+    → 1 ≤ length out → ReadEntries file reader (padded n) p (Ok found) lent
+    → ReadEntries file reader (counted_words n) p (Ok found) (set (put_mid 1 (length out - 1) out lent) 0 found.value)
+counted_entries n {found = found} {lent = lent} out h i =
     let words = i.into.value in
     record {
       into =
@@ -136,8 +120,8 @@ counted_entries n {r = r} {lent = lent} out h i =
             value = words;
             says = i.into.says;
             holds = λ g.
-                counted r.count out lent h
-                ∙ ap (λ (m : ℕ). m ∷ lent) (read_count i g)
+                counted found.value out lent h
+                ∙ ap (λ (m : ℕ). m ∷ lent) i.count
                 ∙ ap (λ (l : List ℕ). length words ∷ l) (i.into.holds g);
             within = i.into.within;
           };

@@ -1,6 +1,6 @@
 pub mod Follow
-pub mod Largest
+pub mod Ended
 pub mod Storing
 pub mod Judging
+pub mod Largest
 pub mod Number
-pub mod Ended

@@ -13,14 +13,13 @@ use Rattle.meaning.specs.Reader.{Outcome, at_line, line}
 use Rattle.meaning.proofs.Tests.{true≢false}
 use Rattle.meaning.proofs.Lists.{every_map}
 use Rattle.text.specs.declared.ParsedLine.{ParsedLine}
-use Rattle.text.specs.declared.ParsedLine.TheVariants.{Next as LineNext, WrongForm as LineRefused}
 use Rattle.text.specs.Words.{word, parsed_line, line_words}
 use Rattle.text.proofs.Judged.{LineStored, line_stored_lem, line_refused, line_judged, words_in_front}
 use Rattle.lines.specs.declared.Cursor.{Cursor}
-use Rattle.lines.specs.declared.Progress.{Progress}
-use Rattle.lines.specs.declared.Progress.TheVariants.{Next, WrongForm, OutOfRange}
-use Rattle.lines.specs.declared.StoredLine.TheVariants.{Numbers, WrongForm as StoredWrongForm, OutOfRange as StoredOutOfRange}
-use Rattle.lines.specs.Progress.{reached, WithinFile, RefusesLargest, StoredPromise}
+use Rattle.std.specs.Prelude.{Option, Some, None, ok_or, Ok, Err, IsErrAnd}
+use Rattle.lines.specs.declared.LineRefused.{LineRefused}
+use Rattle.lines.specs.declared.LineRefused.TheVariants.{WrongForm, OutOfRange}
+use Rattle.lines.specs.Progress.{Progress, reached, WithinFile, StoredLine, RefusesLargest, StoredPromise}
 
 -- ---- words for numbers
 -- what holds of all words holds of each number's word
@@ -39,7 +38,7 @@ same_words_lem (n ∷ ns) h =
 module _ (file : List ℕ) (n : ℕ) (next : Cursor) where
   -- its outcome by the range test
   abbrev judged_line : List ℕ → Bool → Outcome (List ℕ)
-  judged_line ns t = reached file ns (cond t (Next next) (OutOfRange n))
+  judged_line ns t = reached file ns (cond t (Ok next) (Err (OutOfRange n)))
 
   -- a form that refuses the largest word does the same with words as with numbers
   words_judged : (f : Form) → RefusesLargest f → (ns : List ℕ) → length ns ≤ f.most
@@ -62,31 +61,27 @@ module _ (file : List ℕ) (n : ℕ) (next : Cursor) where
   at_line_lem e true ns = rw e
   at_line_lem e false ns = refl
 
+-- ---- a line is there, or it is refused
+module _ {A E : Type 0} where
+  pub there : (o : Option A) (e : E) {x : A} → ok_or o e ≡ Ok x → o ≡ Some x
+  there (Some y) e h = cc
+  there None e h = cc
+
+  pub not_there : (o : Option A) (e : E) {y : E} → ok_or o e ≡ Err y → (o ≡ None) × (y ≡ e)
+  not_there (Some y) e h = cc
+  not_there None e h = (refl, cc)
+
+-- what a `?` hands on is the refusal
+pub stored_refused : {file key out₀ out : List ℕ} {p : Progress} {least : ℕ} (r : StoredLine) {e e' : LineRefused} → IsErrAnd r (λ x. x ≡ e) → e ≡ e'
+    → StoredPromise file p key least out₀ (Err e') out → StoredPromise file p key least out₀ r out
+stored_refused (Ok s) h same i = absurd h
+stored_refused (Err x) h same i = rw (h ∙ same) i
+
 -- ---- what is promised of the line that follows p
--- a refusal that came in goes out
-module _ {file key out₀ out : List ℕ} {least n : ℕ} {p : Progress} where
-  pub refused_form : p ≡ WrongForm n → WithinFile file p → StoredPromise file p key least out₀ (StoredWrongForm n) out
-  refused_form e h = record {
-    says = λ f k l m low. rw e;
-    within = λ ok. subst (WithinFile file) e h;
-    room = omega arith;
-    enough = λ none. absurd none;
-    behind = λ none. absurd none;
-  }
-
-  pub refused_range : p ≡ OutOfRange n → WithinFile file p → StoredPromise file p key least out₀ (StoredOutOfRange n) out
-  refused_range e h = record {
-    says = λ f k l m low. rw e;
-    within = λ ok. subst (WithinFile file) e h;
-    room = omega arith;
-    enough = λ none. absurd none;
-    behind = λ none. absurd none;
-  }
-
-module _ (file key out₀ : List ℕ) (least : ℕ) (p : Progress) (here : Cursor) (before : p ≡ Next here) (within : WithinFile file p) (l : ParsedLine)
+module _ (file key out₀ : List ℕ) (least : ℕ) (p : Progress) (here : Cursor) (before : p ≡ Ok here) (within : WithinFile file p) (l : Option ParsedLine)
     (parsed : l ≡ parsed_line key least (length out₀) here.at (drop here.at file)) where
   -- the line is wrong in form
-  pub line_wrong : {out : List ℕ} → l ≡ LineRefused → StoredPromise file p key least out₀ (StoredWrongForm here.line) out
+  pub line_wrong : {out : List ℕ} → l ≡ None → StoredPromise file p key least out₀ (Err (WrongForm here.line)) out
   unfolding line at_line
   line_wrong e =
       let inside = subst (WithinFile file) before within in
@@ -98,7 +93,13 @@ module _ (file key out₀ : List ℕ) (least : ℕ) (p : Progress) (here : Curso
         behind = λ none. absurd none;
       }
 
-  module _ {c m : ℕ} (taken : l ≡ LineNext c m) where
+  module _ (parsed_as : ParsedLine) (taken : l ≡ Some parsed_as) where
+    abbrev c : ℕ
+    c = parsed_as.next
+
+    abbrev m : ℕ
+    m = parsed_as.count
+
     -- the parsed line
     abbrev line_stored : LineStored key least (length out₀) here.at (drop here.at file) c m
     line_stored = line_stored_lem key least (length out₀) here.at (drop here.at file) c m (sym parsed ∙ taken)
@@ -111,7 +112,7 @@ module _ (file key out₀ : List ℕ) (least : ℕ) (p : Progress) (here : Curso
 
     -- its numbers are stored
     pub line_taken : (out : List ℕ) → out ≡ sets out₀ 0 (line_words key (length out₀) (drop here.at file))
-        → StoredPromise file p key least out₀ (Numbers here.line (record { at = c; line = here.line + 1 }) m) out
+        → StoredPromise file p key least out₀ (Ok (record { line = here.line; next = record { at = c; line = here.line + 1 }; count = m })) out
     unfolding line at_line
     line_taken out o =
         let s = line_stored in

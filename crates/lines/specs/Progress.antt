@@ -1,77 +1,101 @@
 -- What an answer of a reading function says, as what the meaning's reader finds.
-use Rattle.std.specs.Prelude.{◌≡◌, Bool, true, cond, List, ℕ, suc, ◌≤◌, ◌<◌, ltb, length, take, drop}
+use Rattle.std.specs.Prelude.{◌≡◌, Bool, true, cond, List, ℕ, suc, ◌≤◌, ◌<◌, ltb, length, take, drop, Result, Ok, Err, IfOk}
 use Prim.Native.String.{String}
 use Rattle.meaning.specs.Lists.{Every}
 use Rattle.meaning.specs.Text.{Form, bytes}
 use Rattle.meaning.specs.Reader.{Outcome, found, wrong_form, out_of_range, Reader, line}
 use Rattle.meaning.specs.Table.{largest_word}
-use Rattle.lines.specs.declared.Progress.{Progress}
-use Rattle.lines.specs.declared.Progress.TheVariants.{Next, WrongForm, OutOfRange}
-use Rattle.lines.specs.declared.StoredLine.{StoredLine}
-use Rattle.lines.specs.declared.StoredLine.TheVariants.{Numbers, WrongForm as StoredWrongForm, OutOfRange as StoredOutOfRange}
-use Rattle.lines.specs.declared.EntriesAnswer.{EntriesAnswer}
+use Rattle.lines.specs.declared.Cursor.{Cursor}
+use Rattle.lines.specs.declared.LineRefused.{LineRefused}
+use Rattle.lines.specs.declared.LineRefused.TheVariants.{WrongForm, OutOfRange}
+use Rattle.lines.specs.declared.Stored.{Stored}
+use Rattle.lines.specs.declared.LineValue.{LineValue}
 
 -- a key as text, for the contracts, which cannot name the library's type
 abbrev pub Key : Type 0
 Key = String
 
 -- ---- how far a file is read. Lines are counted from 0 in the code and from 1 in document 01
+-- the three cases that document 01 names: the next cursor, wrong form, out of range
+abbrev pub Progress : Type 0
+Progress = Result Cursor LineRefused
+
 -- the start of a file: nothing is read yet
 abbrev pub at_start : Progress
-at_start = Next (record { at = 0; line = 0 })
+at_start = Ok (record { at = 0; line = 0 })
+
+-- a refusal, as the meaning's reader tells it
+abbrev pub outcome_of : {A : Type 0} → LineRefused → Outcome A
+outcome_of (WrongForm n) = wrong_form (suc n)
+outcome_of (OutOfRange n) = out_of_range (suc n)
+
+-- how many lines stand before the refused one
+abbrev pub lines_before : LineRefused → ℕ
+lines_before (WrongForm n) = n
+lines_before (OutOfRange n) = n
 
 -- a value that was read up to there
 abbrev pub reached : {A : Type 0} → List ℕ → A → Progress → Outcome A
-reached file a (Next c) = found a (suc c.line) (drop c.at file)
-reached file a (WrongForm n) = wrong_form (suc n)
-reached file a (OutOfRange n) = out_of_range (suc n)
+reached file a (Ok c) = found a (suc c.line) (drop c.at file)
+reached file a (Err e) = outcome_of e
 
 -- what a reader finds from there on; a refusal stays as it is
 abbrev pub resumed : {A : Type 0} → List ℕ → Progress → Reader A → Outcome A
-resumed file (Next c) reader = reader (suc c.line) (drop c.at file)
-resumed file (WrongForm n) reader = wrong_form (suc n)
-resumed file (OutOfRange n) reader = out_of_range (suc n)
+resumed file (Ok c) reader = reader (suc c.line) (drop c.at file)
+resumed file (Err e) reader = outcome_of e
 
 -- no line was refused
 abbrev pub Going : Progress → Type 0
-Going (Next c) = Unit {0}
-Going (WrongForm n) = ⊥
-Going (OutOfRange n) = ⊥
+Going (Ok c) = Unit {0}
+Going (Err e) = ⊥
 
 -- no more lines than bytes, and none past the end
 abbrev pub WithinFile : List ℕ → Progress → Type 0
-WithinFile file (Next c) = (c.line ≤ c.at) × (c.at ≤ length file)
-WithinFile file (WrongForm n) = n ≤ length file
-WithinFile file (OutOfRange n) = n ≤ length file
+WithinFile file (Ok c) = (c.line ≤ c.at) × (c.at ≤ length file)
+WithinFile file (Err e) = lines_before e ≤ length file
 
 -- at the end of a file of so many bytes: a further line is one too many, which is wrong form
 abbrev pub ended_as : ℕ → Progress → Progress
-ended_as size (Next c) = cond (ltb c.at size) (WrongForm c.line) (Next c)
-ended_as size (WrongForm n) = WrongForm n
-ended_as size (OutOfRange n) = OutOfRange n
+ended_as size (Ok c) = cond (ltb c.at size) (Err (WrongForm c.line)) (Ok c)
+ended_as size (Err e) = Err e
+
+-- ---- a value that was read, with the cursor behind it, or a refusal
+abbrev pub LineResult : Type 0 → Type 0
+LineResult A = Result (LineValue A) LineRefused
+
+-- how far the file is read then
+abbrev pub progress_of : {A : Type 0} → LineResult A → Progress
+progress_of (Ok f) = Ok f.next
+progress_of (Err e) = Err e
+
+-- what the meaning's reader finds
+abbrev pub told : {A : Type 0} → List ℕ → LineResult A → Outcome A
+told file (Ok f) = reached file f.value (Ok f.next)
+told file (Err e) = outcome_of e
 
 -- ---- a line whose numbers are stored and not yet judged
+abbrev pub StoredLine : Type 0
+StoredLine = Result Stored LineRefused
+
 -- how many they are
 abbrev pub entries_of : StoredLine → ℕ
-entries_of (Numbers n next k) = k
-entries_of (StoredWrongForm n) = 0
-entries_of (StoredOutOfRange n) = 0
+entries_of (Ok s) = s.count
+entries_of (Err e) = 0
 
 -- the line was not refused
 abbrev pub HasNumbers : StoredLine → Type 0
-HasNumbers (Numbers n next k) = Unit {0}
-HasNumbers (StoredWrongForm n) = ⊥
-HasNumbers (StoredOutOfRange n) = ⊥
+HasNumbers (Ok s) = Unit {0}
+HasNumbers (Err e) = ⊥
 
 -- after the range test: "form before range"
 abbrev pub judged_as : StoredLine → Bool → Progress
-judged_as (Numbers n next k) ok = cond ok (Next next) (OutOfRange n)
-judged_as (StoredWrongForm n) ok = WrongForm n
-judged_as (StoredOutOfRange n) ok = OutOfRange n
+judged_as (Ok s) ok = cond ok (Ok s.next) (Err (OutOfRange s.line))
+judged_as (Err e) ok = Err e
 
--- the same with the number of entries, none after a refusal
-abbrev pub judged_entries_as : StoredLine → Bool → EntriesAnswer
-judged_entries_as r ok = record { progress = judged_as r ok; count = cond ok (entries_of r) 0 }
+-- the same with the number of entries
+abbrev pub judged_entries_as : StoredLine → Bool → LineResult ℕ
+judged_entries_as (Ok s) ok = cond ok (Ok (record { value = s.count; next = s.next })) (Err (OutOfRange s.line))
+judged_entries_as (Err e) ok = Err e
 
 -- a form whose range test refuses the largest word, which stands for all numbers that do not fit
 abbrev pub RefusesLargest : Form → Type 0
@@ -98,13 +122,7 @@ pub record ReadInto {A : Type 0} (file : List ℕ) (reader : Reader A) (words : 
   pub holds : Going r → out ≡ words value
   pub within : WithinFile file r
 
--- so many entries, none after a refusal
-abbrev pub unless_refused : Progress → ℕ → ℕ
-unless_refused (Next c) k = k
-unless_refused (WrongForm n) k = 0
-unless_refused (OutOfRange n) k = 0
-
 -- the same for the entries of a line, with their number
-pub record ReadEntries (file : List ℕ) (reader : Reader (List ℕ)) (words : List ℕ → List ℕ) (p : Progress) (r : EntriesAnswer) (out : List ℕ) : Type 0 where
-  pub into : ReadInto file reader words p r.progress out
-  pub count : r.count ≡ unless_refused r.progress (length into.value)
+pub record ReadEntries (file : List ℕ) (reader : Reader (List ℕ)) (words : List ℕ → List ℕ) (p : Progress) (r : LineResult ℕ) (out : List ℕ) : Type 0 where
+  pub into : ReadInto file reader words p (progress_of r) out
+  pub count : IfOk r (λ f. f.value ≡ length into.value)

@@ -11,8 +11,7 @@ fn main(rt: HostRuntime) -> io::Result<()> {
     let mut instance = [0u8; 65536];
     let mut plan = [0u8; 65536];
     let mut table = [0u32; 8976];
-    let n = read_file(&rt, b"instance.txt", &mut instance);
-    let m = read_file(&rt, b"plan.txt", &mut plan);
-    let answer = check(&instance[..n], &plan[..m], &mut table);
-    print_answer(&mut io::writer(&rt), answer)
+    let instance = read_file(&rt, b"instance.txt", &mut instance);
+    let plan = read_file(&rt, b"plan.txt", &mut plan);
+    print_answer(&mut io::writer(&rt), check(instance, plan, &mut table))
 }

@@ -5,58 +5,48 @@
 
 use badline::{bad_line, locate};
 use checking::check;
-use fileio::{print, read_file_in};
+use fileio::read_file_in;
+use meaning::Answer;
 use sentence::print_sentence;
 use std::io::Write;
 use std::rt::Files;
 use std::{env, io};
 
-// Prints the bad line of a verdict that names one.
-fn print_bad_line<'a, W: Write>(
+// Prints the bad line of a verdict that names one. An answer has the verdict's number, as C is handed it.
+fn print_bad_line<W: Write>(
     out: &mut W,
-    instance: &'a [u8],
-    plan: &'a [u8],
-    number: u32,
-    line: u32,
+    instance: &[u8],
+    plan: &[u8],
+    answer: Answer,
 ) -> io::Result<()> {
-    match number {
-        4 | 5 | 7 | 8 => {}
-        _ => {
-            return Ok(());
-        }
+    if !matches!(answer.number, 4 | 5 | 7 | 8) {
+        return Ok(());
     }
     // A line that is there begins before the end of its file.
-    let part = locate(instance, plan, number, line);
-    if !part.plan & (part.start == instance.len()) {
-        return print(out, b"The file ends before that line.\n");
+    let part = locate(instance, plan, answer.number, answer.first);
+    if !part.plan && part.start == instance.len() {
+        return writeln!(out, "The file ends before that line.");
     }
-    print(out, bad_line(instance, plan, number, line))?;
-    print(out, b"\n")
+    out.write_all(bad_line(instance, plan, answer.number, answer.first))?;
+    writeln!(out)
 }
 
 // Checks a plan and says what its verdict means.
-fn explain<'a, W: Write>(out: &mut W, instance: &'a [u8], plan: &'a [u8]) -> io::Result<()> {
+fn explain<W: Write>(out: &mut W, instance: &[u8], plan: &[u8]) -> io::Result<()> {
     let mut table = [0u32; 8976];
     let answer = check(instance, plan, &mut table);
     print_sentence(out, answer)?;
-    print_bad_line(out, instance, plan, answer.number, answer.first)
+    print_bad_line(out, instance, plan, answer)
 }
 
 // The plan of a folder.
-fn explain_folder<R: Files, W: Write>(files: &R, out: &mut W, folder: &[u8]) -> io::Result<()> {
+fn explain_folder<R: Files, W: Write>(files: &R, out: &mut W, folder: &str) -> io::Result<()> {
     // A file may have 65,535 bytes: one byte more shows that it is overlong.
     let mut instance = [0u8; 65536];
     let mut plan = [0u8; 65536];
-    let n = read_file_in(files, folder, b"/instance.txt", &mut instance);
-    let m = read_file_in(files, folder, b"/plan.txt", &mut plan);
-    explain(out, &instance[..n], &plan[..m])
-}
-
-// The same, with the folder's name in front of the sentence.
-fn explain_named<R: Files, W: Write>(files: &R, out: &mut W, folder: &[u8]) -> io::Result<()> {
-    print(out, folder)?;
-    print(out, b": ")?;
-    explain_folder(files, out, folder)
+    let instance = read_file_in(files, folder.as_bytes(), b"/instance.txt", &mut instance);
+    let plan = read_file_in(files, folder.as_bytes(), b"/plan.txt", &mut plan);
+    explain(out, instance, plan)
 }
 
 // An argument that is no text, as a name in an older encoding, ends the program with an error: no folder could be opened by it.
@@ -65,10 +55,11 @@ fn main(rt: HostRuntime) -> io::Result<()> {
     // The first argument is the program's own name.
     let folders = env::args(&rt)?.skip(1);
     if folders.len() == 0 {
-        return explain_folder(&rt, &mut out, b".");
+        return explain_folder(&rt, &mut out, ".");
     }
     for folder in folders {
-        explain_named(&rt, &mut out, folder.as_bytes())?;
+        write!(out, "{folder}: ")?;
+        explain_folder(&rt, &mut out, folder.as_str())?;
     }
     Ok(())
 }

@@ -12,8 +12,9 @@ pub struct Limits {
     pub bytes: usize,
 }
 
-// Where a rule is broken: up to three numbers, and 0 where the rule names fewer.
-#[derive(Clone, Copy)]
+// Where a rule is broken: up to three numbers, and 0 where the rule names fewer. Places are ordered by the first number, then the second,
+// then the third.
+#[derive(Clone, Copy, PartialEq, Eq, PartialOrd, Ord)]
 pub struct Place {
     pub first: u32,
     pub second: u32,

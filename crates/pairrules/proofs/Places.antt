@@ -1,13 +1,12 @@
 -- Places from a start up to an end: what holds of those that a loop has passed, and of each two of them. The stacks of a used truck by place.
 use mathlib.Core.Path.{◌≡◌, refl, sym, ap, ap₂, subst, ◌∙◌}
 use mathlib.Core.Logic.{⊎_elim, ◌↔◌}
-use mathlib.Core.Bool.{Bool, true, false, not}
+use mathlib.Core.Bool.{Bool, true, false}
 use mathlib.Core.List.{List, []}
 use Prim.Native.Nat.{ℕ, ◌+◌, ◌-◌, ◌≤◌, ◌<◌}
 use native.Mathlib.Nat.{eq-or-lt_of_le}
 use native.Mathlib.Decide.{dec_le}
 use native.Mathlib.Omega.{arith}
-use borrow.Author.Tests.{not-true, not-false}
 use lib.ListN.{length}
 use Rattle.meaning.specs.Lists.{In}
 use Rattle.meaning.specs.Model.{Instance, Stack, number}
@@ -50,13 +49,13 @@ module _ {P : ℕ → Type 0} {start end : ℕ} where
     upto_all last = ((λ e j from less. h.each j from (omega arith)), (λ each. refl))
 
     module _ (up : k < end) {kept : Bool} (told : (kept ≡ true) ↔ P k) where
-      pub upto_kept : not kept ≡ false → Upto P start end (k + 1)
-      upto_kept e = upto_more up (told.0 (not-false kept e))
+      pub upto_kept : kept ≡ true → Upto P start end (k + 1)
+      upto_kept e = upto_more up (told.0 e)
 
-      pub upto_broken : not kept ≡ true → (false ≡ true) ↔ Each P start end
+      pub upto_broken : kept ≡ false → (false ≡ true) ↔ Each P start end
       upto_broken e = (
         (λ f. absurd (true≢false (sym f))),
-        (λ each. absurd (true≢false (sym (told.1 (each k h.from up)) ∙ not-true kept e))),
+        (λ each. absurd (true≢false (sym (told.1 (each k h.from up)) ∙ e))),
       )
 
 -- ---- each two places

@@ -1,35 +1,22 @@
 -- P4 on ranks: comparing the highest of some loading orders with the lowest of others compares each with each.
-use mathlib.Core.Path.{◌≡◌, refl, sym, ◌∙◌}
+use mathlib.Core.Path.{◌≡◌, refl, sym}
 use mathlib.Core.Logic.{◌↔◌}
-use mathlib.Core.Bool.{Bool, true, false, not, ◌&&◌, ◌||◌, or-true, or-false}
+use mathlib.Core.Bool.{Bool, true, ◌||◌, or-true}
 use mathlib.Core.List.{List, map}
-use Prim.Native.Nat.{ℕ, ◌≤◌, ◌<◌}
-use borrow.Author.Tests.{le-leb, lt-leb, eq-eqb, ne_eqb}
-use lib.Dec.{leb, ltb, eqb}
+use Prim.Native.Nat.{ℕ, ◌≤◌}
+use borrow.Author.Tests.{le-leb}
+use lib.Dec.{leb}
 use Rattle.meaning.specs.Lists.{all}
 use Rattle.meaning.specs.Model.{Instance, Stack, item, truck}
 use Rattle.meaning.specs.Measures.{plant_dock_order}
 use Rattle.meaning.specs.Rules.{docks_not_after, loads_before}
 use Rattle.meaning.proofs.Tests.{le_reads, same_test, iff_trans, iff_sym}
 use Rattle.meaning.proofs.Lists.{all_every}
-use Rattle.views.specs.declared.Rank.{Rank}
 use Rattle.views.specs.Views.{plant_dock_orders, range_of, rank_of}
 use Rattle.views.proofs.OrderRanges.{range_low, range_high}
-use Rattle.manifest.specs.Manifest.{row_word, rank_at}
-use Rattle.pairrules.specs.PairRules.{ranks_before, in_order_at}
+use Rattle.pairrules.specs.PairRules.{ranks_before}
 
 -- ---- the test on ranks, as the code makes it
-pub other_supplier : (a b : Rank) → (a.supplier ≡ b.supplier → ⊥) → ltb a.supplier_order b.supplier_order ≡ ranks_before a b
-other_supplier a b d =
-    let earlier = ltb a.supplier_order b.supplier_order in
-    rw (ne_eqb a.supplier b.supplier d) (sym (or-false (earlier || false) ∙ or-false earlier))
-
-pub one_supplier : (a b : Rank) → a.supplier ≡ b.supplier
-    → (ltb a.supplier_order b.supplier_order || ltb a.dock_order b.dock_order
-    || (eqb a.dock b.dock && leb a.highest b.lowest && not (leb b.highest a.lowest)))
-    ≡ ranks_before a b
-one_supplier a b e = rw (eq-eqb a.supplier b.supplier e) refl
-
 -- ---- ranges of loading orders
 module _ {A : Type 0} where
   -- numbers that are at most 8 are each at most each of others where the highest is at most the lowest of those
@@ -61,12 +48,3 @@ ranks_before_lem i s r few few' = rw (docks_range i s r few, docks_range i r s f
 -- ---- 25 order, as the code asks it: x first
 pub in_front : (order : Bool) (u v : ℕ) → u ≤ v → true ≡ (order || leb u v)
 in_front order u v h = rw (le-leb u v h) (sym (or-true order))
-
--- two places and their x as it is read
-module _ (rows : List ℕ) (a b : ℕ) {u v : ℕ} (eu : u ≡ row_word rows a 4) (ev : v ≡ row_word rows b 4) where
-  pub front_in_order : u ≤ v → true ≡ in_order_at rows a b
-  front_in_order h = in_front (not (ranks_before (rank_at rows a) (rank_at rows b))) _ _ (rw (eu, ev) at h)
-
-  pub behind_in_order : v < u → {s r : Rank} {before : Bool} → s ≡ rank_at rows a → r ≡ rank_at rows b → before ≡ ranks_before s r
-      → not before ≡ in_order_at rows a b
-  behind_in_order h es er e = rw (e, es, er, lt-leb (row_word rows a 4) (row_word rows b 4) (rw (eu, ev) at h)) (sym (or-false _))

@@ -1,14 +1,14 @@
 -- The search for the lowest pair of stacks that breaks a rule: the stacks by ascending number, and with each its partners on its used truck.
 use mathlib.Core.Path.{◌≡◌, sym, ap, ap₂, subst, ◌∙◌}
 use mathlib.Core.Logic.{inl, inr, ⊎_elim}
-use mathlib.Core.Bool.{Bool, true, false, not}
+use mathlib.Core.Bool.{Bool, true, false}
 use mathlib.Core.List.{List}
 use Prim.Native.Nat.{ℕ, ◌+◌, ◌≤◌, ◌<◌}
 use native.Mathlib.Nat.{eq-or-lt_of_le}
 use native.Mathlib.Decide.{dec_le}
 use native.Mathlib.Omega.{arith}
-use borrow.Author.Tests.{not-true}
 use lib.ListN.{length, get_or}
+use Rattle.std.specs.Prelude.{Some, None}
 use Rattle.meaning.specs.declared.Limits.{Limits}
 use Rattle.meaning.specs.declared.Place.{Place}
 use Rattle.meaning.specs.Lists.{In}
@@ -19,7 +19,6 @@ use Rattle.meaning.specs.Rules.{pair_places}
 use Rattle.meaning.specs.Claims.{Before}
 use Rattle.meaning.specs.Table.{instance_in, stacks_in}
 use Rattle.meaning.proofs.Tests.{true≢false}
-use Rattle.search.specs.declared.Found.TheVariants.{At, Nothing}
 use Rattle.search.specs.Lowest.{lowest_in}
 use Rattle.search.proofs.Lowest.{found_first, found_none}
 use Rattle.manifest.specs.declared.Block.{Block}
@@ -29,7 +28,7 @@ use Rattle.rules.specs.declared.PairRule.{PairRule}
 use Rattle.rules.specs.declared.PairRule.TheVariants.{SecondPair, Overlap, Order}
 use Rattle.rules.specs.LoadingRules.{pair_test}
 use Rattle.pairrules.specs.PairRules.{SortedRows, place_at, whole_plan, BlockOf, first_partner}
-use Rattle.pairrules.proofs.Places.{Upto, upto_start, upto_more, upto_kept, same_told}
+use Rattle.pairrules.proofs.Places.{Upto, upto_more}
 use Rattle.pairrules.proofs.Sorted.{place_within, place_there, word_rising}
 use Rattle.pairrules.proofs.Pairs.{single_turned, disjoint_turned}
 use Rattle.pairrules.proofs.Partners.{Broken, pair_listed, listed_pair, stack_in_lem, stack_place_lem, one_stack_lem, number_upto, inside_a, block_used, used_block, some_partners, partner_differs}
@@ -52,10 +51,6 @@ pub record PartnersPassed (rule : PairRule) (m : Limits) (t rows order : List �
   pub around : BlockOf rows a (length (stacks_in m t)) on
   pub passed : Upto (λ j. pair_test rule (instance_in m t) (manifest_at (stacks_in m t) a) (manifest_at (stacks_in m t) j) ≡ true)
       (first_partner rule a on.start) on.end b
-
-pub stacks_start : {rule : PairRule} {m : Limits} {t rows order : List ℕ} → HoldsRows m t rows → SortedRows rows (whole_plan (length (stacks_in m t))) 1 order
-    → StacksPassed rule m t rows order 0
-stacks_start held sorted = record { held = held; sorted = sorted; passed = upto_start (omega arith) }
 
 -- ---- the stacks by number
 module _ {rule : PairRule} {m : Limits} {t rows order : List ℕ} {k : ℕ} (stacks : StacksPassed rule m t rows order k) where
@@ -96,18 +91,12 @@ module _ {rule : PairRule} {m : Limits} {t rows order : List ℕ} {k : ℕ} (sta
       go l up is (no q) = come s l (omega arith) is
 
   -- where every stack has come, no pair breaks the rule
-  pub pair_none : length p ≤ k → Nothing ≡ lowest_in (pair_places (pair_test rule) i p)
+  pub pair_none : length p ≤ k → None ≡ lowest_in (pair_places (pair_test rule) i p)
   pair_none last =
       found_none _ (λ q m.
       let w = listed_pair (pair_test rule) i p q m in
       let z = numbered_there w.0 w.2.first in
       true≢false (sym (come w.0 z.0 (omega (arith, z.1)) z.2 w.1 w.2.second w.2.used w.2.differ) ∙ w.2.breaks))
-
-  pub partners_start : {count a b : ℕ} {on : Block} → count ≡ length p → k < count → a ≡ get_or order k 0 → BlockOf rows a count on
-      → b ≡ first_partner rule a on.start → PartnersPassed rule m t rows order k a on b
-  partners_start {on = on} e up is around from =
-      let whole = rw e at around in
-      record { inside = omega arith; is = is; around = whole; passed = rw from (upto_start (some_partners stacks.held whole rule).1) }
 
   -- ---- one stack with its partners
   module _ {a b : ℕ} {on : Block} (l : PartnersPassed rule m t rows order k a on b) where
@@ -163,15 +152,11 @@ module _ {rule : PairRule} {m : Limits} {t rows order : List ℕ} {k : ℕ} (sta
         }
 
     module _ (up : b < on.end) {kept : Bool} (asks : kept ≡ pair_test rule i s (manifest_at p b)) where
-      pub partners_more : not kept ≡ false → PartnersPassed rule m t rows order k a on (b + 1)
-      partners_more e =
-          record { inside = l.inside; is = l.is; around = l.around; passed = upto_kept l.passed up (same_told asks) e }
-
       -- the first pair that breaks the rule is the lowest
-      module _ (e : not kept ≡ true) where
+      module _ (e : kept ≡ false) where
         found : Broken (pair_test rule i) p s (manifest_at p b)
         found =
-            let breaks : pair_test rule i s (manifest_at p b) ≡ false = sym asks ∙ not-true kept e in
+            let breaks : pair_test rule i s (manifest_at p b) ≡ false = sym asks ∙ e in
             record {
               first = stack_in_lem stacks.held a first_within;
               second = stack_in_lem stacks.held b (within up).1;
@@ -201,7 +186,7 @@ module _ {rule : PairRule} {m : Limits} {t rows order : List ℕ} {k : ℕ} (sta
         none_before u v w (inr (same, inr (same', less))) = omega arith
 
         pub pair_found : {first second : ℕ} → first ≡ row_word rows a 1 → second ≡ row_word rows b 1
-            → At (place first second 0) ≡ lowest_in (pair_places (pair_test rule) i p)
+            → Some (place first second 0) ≡ lowest_in (pair_places (pair_test rule) i p)
         pair_found ef es =
             rw (ef, es, word_is stacks.held a first_within 1 (omega arith), word_is stacks.held b (within up).1 1 (omega arith))
             (found_first _ _ (pair_listed (pair_test rule) i p s (manifest_at p b) found) (λ q m before.

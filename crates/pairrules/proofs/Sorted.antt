@@ -1,12 +1,11 @@
 -- The places of a block by a word of their rows: they are those of the block, each is there, and the word does not fall.
 use mathlib.Core.Path.{◌≡◌, sym, ap, subst, ◌∙◌}
-use mathlib.Core.Logic.{⊎_elim, ◌↔◌}
+use mathlib.Core.Logic.{◌↔◌}
 use mathlib.Core.List.{List}
 use Prim.Native.Nat.{ℕ, zero, suc, ◌+◌, ◌-◌, ◌≤◌, ◌<◌}
-use native.Mathlib.Nat.{eq-or-lt_of_le}
 use native.Mathlib.Omega.{arith}
-use lib.ListN.{length, get_or, take, set, length-set}
-use lib.Seq.{get_or-take, get_or-set_same, get_or-set_other}
+use lib.ListN.{length, get_or, take}
+use lib.Seq.{get_or-take}
 use Rattle.meaning.specs.Lists.{up_from, In}
 use Rattle.meaning.proofs.Tests.{iff_trans}
 use Rattle.meaning.proofs.Lists.{NoRepeat, at_in, in_at, in_up_from, length_up_from}
@@ -29,18 +28,6 @@ module _ {rows : List ℕ} {on : Block} {word : ℕ} {keys : List ℕ} where
   written_none room = record { few = omega arith; room = room; each = λ j less. absurd (omega arith) }
 
   module _ {k : ℕ} (h : Written rows on word keys k) where
-    pub written_more : {v : ℕ} → k < on.end - on.start → v ≡ row_word rows (on.start + k) word
-        → Written rows on word (set keys k v) (k + 1)
-    written_more {v} up e =
-        let inside : k < length keys = omega (arith, h.room) in
-        record {
-          few = omega arith;
-          room = simp length-set h.room;
-          each = λ j less.
-              ⊎_elim (λ (q : j ≡ k). rw (q, get_or-set_same keys k v 0 inside) e)
-              (λ before. get_or-set_other keys k j v 0 (λ q. omega arith) ∙ h.each j before) (eq-or-lt_of_le (omega arith));
-        }
-
     -- sorting by them sorts by the word
     pub sorted_by : {order : List ℕ} → on.end - on.start ≤ k → on.end - on.start ≤ length order
         → take (on.end - on.start) order ≡ sort_by (λ j. get_or keys j 0) (up_from 0 (on.end - on.start)) → SortedRows rows on word order

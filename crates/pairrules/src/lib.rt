@@ -2,41 +2,39 @@
 // rows hold the stacks of a used truck together, by ascending number.
 #![tactic(auto)]
 
-ghost use Rattle.std.specs.Prelude.{◌≡◌, ◌↔◌, true, [], ◌+◌, ◌-◌, ◌*◌, ◌≤◌, ◌<◌, min, max, length};
-ghost use Rattle.meaning.specs.Table.{instance_in, stacks_in};
+ghost use Rattle.std.specs.Prelude.{[], ◌≡◌, ◌↔◌, true, ◌+◌, ◌-◌, ◌*◌, ◌≤◌, ◌<◌, length};
 ghost use Rattle.meaning.specs.Rules.{pair_places, single_pair};
 ghost use Rattle.search.specs.Lowest.{lowest_in};
 ghost use Rattle.rules.specs.LoadingRules.{pair_test};
-ghost use Rattle.manifest.specs.Manifest.{manifest_at, block, HoldsRows, OneTruck};
+ghost use Rattle.manifest.specs.Manifest.{manifest_at, block, OneTruck};
 ghost use Rattle.pairrules.specs.PairRules.{disjoint_footprints, least_footprint_edge, footprints_in_contact, ranks_before, in_order_at};
 ghost use Rattle.pairrules.specs.PairRules.{Each, SortedRows, whole_plan, BlockOf, KnownBlock, first_partner};
+ghost use Rattle.table.specs.Held.{instance_of, stacks_of};
 
 use manifest::{
-    Block, footprint_at, rank_at, row, row_word, sort, stack_at, truck_end, truck_start,
+    Block, Manifest, footprint_at, rank_at, row, row_word, sort, stack_at, truck_end, truck_start,
 };
-use meaning::{Limits, Place};
+use meaning::Place;
 use rules::PairRule;
-use search::Found;
 use table::fields::IS;
-use table::{as_index, stack_count};
 use views::{Footprint, Rank, bottom_field};
 
 // ---- the tests
 
 // 17 second pair, S3: two stacks of one code do not both have two plant docks. Codes are read for two-dock stacks only.
-fn is_single_pair(t: &[u32], limits: Limits, rows: &[u32], a: usize, b: usize) -> bool
-    requires { HoldsRows limits t.now rows.now × (a < length (stacks_in limits t.now)) × (b < length (stacks_in limits t.now)) }
-    ensures { result ≡ single_pair (instance_in limits t.now) (manifest_at (stacks_in limits t.now) a)
-        (manifest_at (stacks_in limits t.now) b) }
+fn is_single_pair(manifest: Manifest<'_>, a: usize, b: usize) -> bool
+    requires { (a < length (stacks_of manifest.table)) × (b < length (stacks_of manifest.table)) }
+    ensures { result ≡ single_pair (instance_of manifest.entry.table) (manifest_at (stacks_of manifest.entry.table) a)
+        (manifest_at (stacks_of manifest.entry.table) b) }
 {
-    if row_word(rows, a, row::PLANT_DOCKS) != 2 {
+    if row_word(manifest.rows, a, row::PLANT_DOCKS) != 2 {
         return true;
     }
-    if row_word(rows, b, row::PLANT_DOCKS) != 2 {
+    if row_word(manifest.rows, b, row::PLANT_DOCKS) != 2 {
         return true;
     }
-    let code = bottom_field(t, limits, stack_at(rows, a), IS);
-    code != bottom_field(t, limits, stack_at(rows, b), IS)
+    let code = bottom_field(manifest.table, stack_at(manifest.rows, a), IS);
+    code != bottom_field(manifest.table, stack_at(manifest.rows, b), IS)
 }
 
 // 23 overlap, P2: two stacks are disjoint along the trailer or across it.
@@ -44,26 +42,6 @@ pub fn disjoint(a: Footprint, b: Footprint) -> bool
     ensures { result ≡ disjoint_footprints a b }
 {
     (((a.xe <= b.x) | (b.xe <= a.x)) | (a.ye <= b.y)) | (b.ye <= a.y)
-}
-
-// The lower of two numbers.
-fn lower(a: u32, b: u32) -> u32
-    ensures { result ≡ min a b }
-{
-    if a < b {
-        return a;
-    }
-    b
-}
-
-// The higher of two numbers.
-fn higher(a: u32, b: u32) -> u32
-    ensures { result ≡ max a b }
-{
-    if b < a {
-        return a;
-    }
-    b
 }
 
 // An edge of so many millimetres is long enough between any two stacks.
@@ -74,7 +52,7 @@ fn least_edge(a: Footprint, b: Footprint) -> u32
     requires { (a.y ≤ a.ye) × (b.y ≤ b.ye) }
     ensures { result ≡ least_footprint_edge a b }
 {
-    lower(LONG_EDGE, lower(a.ye - a.y, b.ye - b.y))
+    LONG_EDGE.min((a.ye - a.y).min(b.ye - b.y))
 }
 
 // 24 unbraced, P3: whether the second stack ends where the first begins, in contact with it: the common part of their y ranges is an edge that
@@ -86,7 +64,7 @@ pub fn in_contact(a: Footprint, b: Footprint) -> bool
     if b.xe != a.x {
         return false;
     }
-    higher(a.y, b.y) + least_edge(a, b) <= lower(a.ye, b.ye)
+    a.y.max(b.y) + least_edge(a, b) <= a.ye.min(b.ye)
 }
 
 // 25 order, P4: the three cases in which the stack of the first rank must have x no greater than the other.
@@ -113,52 +91,50 @@ pub fn in_loading_order(rows: &[u32], a: usize, b: usize) -> bool
 }
 
 // Whether the stacks at two places keep a rule.
-fn pair_kept(rule: PairRule, t: &[u32], limits: Limits, rows: &[u32], a: usize, b: usize) -> bool
-    requires { HoldsRows limits t.now rows.now × (a < length (stacks_in limits t.now)) × (b < length (stacks_in limits t.now)) }
-    ensures { result ≡ pair_test rule (instance_in limits t.now) (manifest_at (stacks_in limits t.now) a)
-        (manifest_at (stacks_in limits t.now) b) }
+fn pair_kept(rule: PairRule, manifest: Manifest<'_>, a: usize, b: usize) -> bool
+    requires { (a < length (stacks_of manifest.table)) × (b < length (stacks_of manifest.table)) }
+    ensures { result ≡ pair_test rule (instance_of manifest.entry.table) (manifest_at (stacks_of manifest.entry.table) a)
+        (manifest_at (stacks_of manifest.entry.table) b) }
 {
     match rule {
-        PairRule::SecondPair => is_single_pair(t, limits, rows, a, b),
-        PairRule::Overlap => disjoint(footprint_at(rows, a), footprint_at(rows, b)),
-        PairRule::Order => in_loading_order(rows, a, b),
+        PairRule::SecondPair => is_single_pair(manifest, a, b),
+        PairRule::Overlap => disjoint(
+            footprint_at(manifest.rows, a),
+            footprint_at(manifest.rows, b),
+        ),
+        PairRule::Order => in_loading_order(manifest.rows, a, b),
     }
 }
 
 // ---- 17 on one used truck
 
 // Whether the stack at place a keeps 17 with each behind it, up to `end`. Most stacks do not have two plant docks: they keep it with any.
-fn is_single_behind(t: &[u32], limits: Limits, rows: &[u32], a: usize, end: usize) -> bool
-    requires { HoldsRows limits t.now rows.now × (a < end) × (end ≤ length (stacks_in limits t.now)) }
-    ensures { (result ≡ true) ↔ Each (λ b. single_pair (instance_in limits t.now) (manifest_at (stacks_in limits t.now) a)
-        (manifest_at (stacks_in limits t.now) b) ≡ true) (a + 1) end }
+fn is_single_behind(manifest: Manifest<'_>, a: usize, end: usize) -> bool
+    requires { (a < end) × (end ≤ length (stacks_of manifest.table)) }
+    ensures { (result ≡ true) ↔ Each (λ b. single_pair (instance_of manifest.entry.table) (manifest_at (stacks_of manifest.entry.table) a)
+        (manifest_at (stacks_of manifest.entry.table) b) ≡ true) (a + 1) end }
 {
-    if row_word(rows, a, row::PLANT_DOCKS) != 2 {
+    if row_word(manifest.rows, a, row::PLANT_DOCKS) != 2 {
         return true;
     }
-    let mut b = a + 1;
-    while b < end {
-        if !is_single_pair(t, limits, rows, a, b) {
+    for b in a + 1..end {
+        if !is_single_pair(manifest, a, b) {
             return false;
         }
-        b += 1;
     }
     true
 }
 
 // Whether no two stacks of a used truck break 17.
-pub fn keeps_single_pair(t: &[u32], limits: Limits, rows: &[u32], on: Block) -> bool
-    requires { HoldsRows limits t.now rows.now × OneTruck (stacks_in limits t.now) on.start on.end }
-    ensures { (result ≡ true) ↔ (pair_places single_pair (instance_in limits t.now)
-        (block (stacks_in limits t.now) on.start on.end) ≡ []) }
+pub fn keeps_single_pair(manifest: Manifest<'_>, on: Block) -> bool
+    requires { OneTruck (stacks_of manifest.table) on.start on.end }
+    ensures { (result ≡ true) ↔ (pair_places single_pair (instance_of manifest.entry.table)
+        (block (stacks_of manifest.entry.table) on.start on.end) ≡ []) }
 {
-    let end = on.end;
-    let mut a = on.start;
-    while a < end {
-        if !is_single_behind(t, limits, rows, a, end) {
+    for a in on.start..on.end {
+        if !is_single_behind(manifest, a, on.end) {
             return false;
         }
-        a += 1;
     }
     true
 }
@@ -173,10 +149,8 @@ pub fn order_by(rows: &[u32], on: Block, word: usize, keys: &mut [u64], order: &
     ensures lengths { (length keys.new ≡ length keys.old) × (length order.new ≡ length order.old) }
 {
     let count = on.end - on.start;
-    let mut k = 0;
-    while k < count {
+    for k in 0..count {
         keys[k] = row_word(rows, on.start + k, word) as u64;
-        k += 1;
     }
     sort(keys, order, count);
 }
@@ -210,36 +184,26 @@ fn first_partner(rule: PairRule, a: usize, on: Block) -> usize
 
 // The pair with the lowest first stack number, then the lowest second, that breaks a rule. The stacks are taken by ascending number, and so
 // are the partners of each on its used truck, so the first pair found is the lowest.
-pub fn first_pair(
-    rule: PairRule,
-    t: &[u32],
-    limits: Limits,
-    rows: &[u32],
-    by_number: &[u32],
-) -> Found
-    requires { HoldsRows limits t.now rows.now × SortedRows rows.now (whole_plan (length (stacks_in limits t.now))) 1 by_number.now }
-    ensures { result ≡ lowest_in (pair_places (pair_test rule) (instance_in limits t.now) (stacks_in limits t.now)) }
+pub fn first_pair(rule: PairRule, manifest: Manifest<'_>, by_number: &[u32]) -> Option<Place>
+    requires { SortedRows manifest.rows.now (whole_plan (length (stacks_of manifest.table))) 1 by_number.now }
+    ensures { result ≡ lowest_in (pair_places (pair_test rule) (instance_of manifest.entry.table) (stacks_of manifest.entry.table)) }
 {
-    let count = stack_count(t, limits);
-    let mut found = Found::Nothing;
+    let count = manifest.table.stack_count();
+    let mut found = None;
     let mut on = Block { start: 0, end: 0 };
-    let mut k = 0;
-    'search: while k < count {
-        let a = as_index(by_number[k]);
-        on = block_at(rows, a, count, on);
-        let mut b = first_partner(rule, a, on);
-        while b < on.end {
-            if !pair_kept(rule, t, limits, rows, a, b) {
-                found = Found::At(Place {
-                    first: row_word(rows, a, row::NUMBER),
-                    second: row_word(rows, b, row::NUMBER),
+    'search: for k in 0..count {
+        let a = by_number[k] as usize;
+        on = block_at(manifest.rows, a, count, on);
+        for b in first_partner(rule, a, on)..on.end {
+            if !pair_kept(rule, manifest, a, b) {
+                found = Some(Place {
+                    first: row_word(manifest.rows, a, row::NUMBER),
+                    second: row_word(manifest.rows, b, row::NUMBER),
                     third: 0,
                 });
                 break 'search;
             }
-            b += 1;
         }
-        k += 1;
     }
     found
 }

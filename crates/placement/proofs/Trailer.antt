@@ -1,10 +1,9 @@
 -- The stacks of a used truck along the trailer: what the three tests of one stack have passed, and what they tell.
-use mathlib.Core.Path.{◌≡◌, refl, sym, ap, ap₂, subst, ◌∙◌}
-use mathlib.Core.Logic.{◌↔◌, inr, ⊎_elim}
-use mathlib.Core.Bool.{Bool, true, false, not}
+use mathlib.Core.Path.{◌≡◌, refl, sym, ap, ap₂, ◌∙◌}
+use mathlib.Core.Logic.{◌↔◌, inr}
+use mathlib.Core.Bool.{Bool, true, false}
 use mathlib.Core.List.{List}
 use Prim.Native.Nat.{ℕ, ◌+◌, ◌-◌, ◌*◌, ◌≤◌, ◌<◌}
-use native.Mathlib.Nat.{eq-or-lt_of_le}
 use native.Mathlib.Decide.{dec_le}
 use native.Mathlib.Omega.{arith}
 use borrow.Author.Tests.{le-leb, eqb-true, eq-eqb, ne_eqb}
@@ -17,7 +16,7 @@ use Rattle.views.specs.declared.Footprint.{Footprint}
 use Rattle.manifest.specs.declared.Block.{Block}
 use Rattle.manifest.specs.Manifest.{row_word, footprint_at}
 use Rattle.pairrules.specs.PairRules.{disjoint_footprints, footprints_in_contact, disjoint_at, in_contact_at, in_order_at, Each, place_at}
-use Rattle.pairrules.proofs.Places.{Upto, upto_start, upto_kept, upto_broken, upto_all, same_told}
+use Rattle.pairrules.proofs.Places.{Upto, upto_kept, same_told}
 use Rattle.pairrules.proofs.Sorted.{place_within, place_there, word_rising}
 use Rattle.placement.specs.Placed.{RowsByX, braced_at}
 
@@ -47,14 +46,7 @@ abbrev Clear : List ℕ → Block → List ℕ → ℕ → Type 0
 Clear rows on along k = Each (λ l. disjoint_at rows (place_at on along k) (place_at on along l) ≡ true) (k + 1) (on.end - on.start)
 
 module _ {rows : List ℕ} {on : Block} {along : List ℕ} {k : ℕ} {ground : Footprint} where
-  pub clear_start : RowsByX rows on along → k < on.end - on.start → ground ≡ footprint_at rows (place_at on along k)
-      → ClearUpto rows on along k ground (k + 1)
-  clear_start h inside e = record { held = h; is = e; passed = upto_start (omega arith) }
-
   module _ {j : ℕ} (h : ClearUpto rows on along k ground j) where
-    pub clear_all : on.end - on.start ≤ j → (true ≡ true) ↔ Clear rows on along k
-    clear_all last = upto_all h.passed last
-
     module _ (up : j < on.end - on.start) {other : Footprint} (eo : other ≡ footprint_at rows (place_at on along j)) where
       -- the j-th begins where the k-th ends, or behind, and so do all further along
       pub clear_behind : ground.xe ≤ other.x → (true ≡ true) ↔ Clear rows on along k
@@ -75,12 +67,6 @@ module _ {rows : List ℕ} {on : Block} {along : List ℕ} {k : ℕ} {ground : F
         clear_told : (kept ≡ true) ↔ (disjoint_at rows (place_at on along k) (place_at on along j) ≡ true)
         clear_told = same_told (asks ∙ ap₂ disjoint_footprints h.is eo)
 
-        pub clear_broken : not kept ≡ true → (false ≡ true) ↔ Clear rows on along k
-        clear_broken e = upto_broken h.passed up clear_told e
-
-        pub clear_more : not kept ≡ false → ClearUpto rows on along k ground (j + 1)
-        clear_more e = record { held = h.held; is = h.is; passed = upto_kept h.passed up clear_told e }
-
 -- ---- 24: the stacks before the k-th
 -- none from the j-th on braces it, nor does the front wall
 pub record NoBrace (rows : List ℕ) (on : Block) (along : List ℕ) (k : ℕ) (ground : Footprint) (j : ℕ) : Type 0 where
@@ -93,11 +79,6 @@ pub record NoBrace (rows : List ℕ) (on : Block) (along : List ℕ) (k : ℕ) (
 
 pub at_front : (rows : List ℕ) (on : Block) (at : ℕ) {ground : Footprint} → ground ≡ footprint_at rows at → ground.x ≡ 0 → true ≡ braced_at rows on at
 at_front rows on at e z = rw (eq-eqb (row_word rows at 4) 0 (sym (ap (λ (g : Footprint). g.x) e) ∙ z)) refl
-
-pub no_brace_start : {rows : List ℕ} {on : Block} {along : List ℕ} {k : ℕ} {ground : Footprint} → RowsByX rows on along → k < on.end - on.start
-    → ground ≡ footprint_at rows (place_at on along k) → (ground.x ≡ 0 → ⊥) → NoBrace rows on along k ground k
-no_brace_start h inside e behind =
-    record { held = h; inside = inside; is = e; behind = behind; upto = omega arith; each = λ l from less. absurd (omega arith) }
 
 module _ {rows : List ℕ} {on : Block} {along : List ℕ} {k : ℕ} {ground : Footprint} {j : ℕ} (h : NoBrace rows on along k ground j) where
   abbrev touches : ℕ → Bool
@@ -121,18 +102,6 @@ module _ {rows : List ℕ} {on : Block} {along : List ℕ} {k : ℕ} {ground : F
     brace_found e =
         let there = nth_listed h.held (j - 1) (omega (arith, h.upto, h.inside)) in
         sym ((or_reads front (any touches others)).1 (inr ((any_reads touches others).1 (place_at on along (j - 1), there, sym asked ∙ e))))
-
-    pub no_brace_more : touched ≡ false → NoBrace rows on along k ground (j - 1)
-    no_brace_more e =
-        record {
-          held = h.held;
-          inside = h.inside;
-          is = h.is;
-          behind = h.behind;
-          upto = omega (arith, h.upto);
-          each = λ l from less.
-              ⊎_elim (λ q. subst (λ c. touches (place_at on along c) ≡ false) q (sym asked ∙ e)) (λ q. h.each l (omega arith) less) (eq-or-lt_of_le from);
-        }
 
   -- what stands at the k-th or behind has x no smaller, so it does not end where the k-th begins
   none_behind : (l : ℕ) → k ≤ l → l < on.end - on.start → touches (place_at on along l) ≡ true → ⊥
@@ -164,13 +133,7 @@ pub record InOrderUpto (rows : List ℕ) (on : Block) (along : List ℕ) (k at j
   pub passed : Upto (λ l. in_order_at rows (place_at on along k) (place_at on along l) ≡ true) 0 k j
 
 module _ {rows : List ℕ} {on : Block} {along : List ℕ} {k at : ℕ} where
-  pub in_order_start : RowsByX rows on along → k < on.end - on.start → at ≡ place_at on along k → InOrderUpto rows on along k at 0
-  in_order_start h inside e = record { held = h; inside = inside; is = e; passed = upto_start (omega arith) }
-
   module _ {j : ℕ} (h : InOrderUpto rows on along k at j) where
-    pub in_order_all : k ≤ j → (true ≡ true) ↔ Each (λ l. in_order_at rows (place_at on along k) (place_at on along l) ≡ true) 0 k
-    in_order_all last = upto_all h.passed last
-
     module _ (up : j < k) {other : ℕ} (eo : other ≡ place_at on along j) where
       pub both_room : (16 * at + 16 ≤ length rows) × (16 * other + 16 ≤ length rows)
       both_room = (rw h.is (nth_room h.held k h.inside), rw eo (nth_room h.held j (omega (arith, h.inside))))
@@ -179,8 +142,5 @@ module _ {rows : List ℕ} {on : Block} {along : List ℕ} {k at : ℕ} where
         in_order_told : (kept ≡ true) ↔ (in_order_at rows (place_at on along k) (place_at on along j) ≡ true)
         in_order_told = same_told (asks ∙ ap₂ (in_order_at rows) h.is eo)
 
-        pub in_order_broken : not kept ≡ true → (false ≡ true) ↔ Each (λ l. in_order_at rows (place_at on along k) (place_at on along l) ≡ true) 0 k
-        in_order_broken e = upto_broken h.passed up in_order_told e
-
-        pub in_order_more : not kept ≡ false → InOrderUpto rows on along k at (j + 1)
+        pub in_order_more : kept ≡ true → InOrderUpto rows on along k at (j + 1)
         in_order_more e = record { held = h.held; inside = h.inside; is = h.is; passed = upto_kept h.passed up in_order_told e }

@@ -9,14 +9,13 @@ use native.Mathlib.Decide.{dec_le}
 use native.Mathlib.Omega.{arith}
 use lib.ListN.{take, length-take}
 use lib.Seq.{get_or-take}
+use Rattle.std.specs.Prelude.{Option, None}
 use Rattle.meaning.specs.declared.Place.{Place}
 use Rattle.meaning.specs.Lists.{In, only_if, up_from}
 use Rattle.meaning.specs.Places.{place}
 use Rattle.meaning.proofs.Tests.{true≢false, iff_trans}
 use Rattle.meaning.proofs.Lists.{in_flat_map, in_up_from}
-use Rattle.search.specs.declared.Found.{Found}
-use Rattle.search.specs.declared.Found.TheVariants.{Nothing}
-use Rattle.search.specs.Lowest.{lowest_in, lower_found}
+use Rattle.search.specs.Lowest.{lowest_in, place_cmp, lower_by}
 use Rattle.search.proofs.Lowest.{lowest_members, LowestFrom, from_start, from_more, from_end}
 use Rattle.manifest.specs.declared.Block.{Block}
 use Rattle.manifest.specs.Manifest.{row_word, footprint_at, rank_at}
@@ -123,25 +122,25 @@ module _ {rows : List ℕ} {on : Block} {along : List ℕ} (h : RowsByX rows on 
 
 -- ---- the walk
 -- the stacks from the k-th on: whether each is clear of those behind it, and the lowest unbraced one
-pub record PlacedFrom (rows : List ℕ) (on : Block) (along : List ℕ) (k : ℕ) (apart : Bool) (unbraced : Found) : Type 0 where
+pub record PlacedFrom (rows : List ℕ) (on : Block) (along : List ℕ) (k : ℕ) (apart : Bool) (unbraced : Option Place) : Type 0 where
   pub held : RowsByX rows on along
   pub clear : AllFrom (λ l. Each (λ j. disjoint_at rows (place_at on along l) (place_at on along j) ≡ true) (l + 1) (on.end - on.start))
       (on.end - on.start) k apart
   pub lowest : LowestFrom (unbraced_at rows on) (take (on.end - on.start) along) k unbraced
 
 module _ {rows : List ℕ} {on : Block} {along : List ℕ} where
-  pub placed_start : RowsByX rows on along → PlacedFrom rows on along (on.end - on.start) true Nothing
+  pub placed_start : RowsByX rows on along → PlacedFrom rows on along (on.end - on.start) true None
   placed_start h =
       record { held = h; clear = all_start; lowest = from_start (omega (arith, length-take (on.end - on.start) along, h.sorted.room)) }
 
-  module _ {k : ℕ} {apart : Bool} {unbraced : Found} (placed : PlacedFrom rows on along k apart unbraced) where
+  module _ {k : ℕ} {apart : Bool} {unbraced : Option Place} (placed : PlacedFrom rows on along k apart unbraced) where
     pub next_inside : 0 < k → k - 1 < on.end - on.start
     next_inside some = omega (arith, placed.clear.upto)
 
     -- the next one: whether it is braced, and where no two overlap so far, whether it is clear
-    module _ (some : 0 < k) {at number : ℕ} {braced : Bool} {here r : Found} (ea : at ≡ place_at on along (k - 1)) (en : number ≡ row_word rows at 1)
+    module _ (some : 0 < k) {at number : ℕ} {braced : Bool} {here r : Option Place} (ea : at ≡ place_at on along (k - 1)) (en : number ≡ row_word rows at 1)
         (eb : braced ≡ braced_at rows on (place_at on along (k - 1))) (eh : here ≡ lowest_in (only_if (not braced) (place number 0 0)))
-        (er : r ≡ lower_found here unbraced) where
+        (er : r ≡ lower_by place_cmp here unbraced) where
       lowest_more : LowestFrom (unbraced_at rows on) (take (on.end - on.start) along) (k - 1) r
       lowest_more =
           from_more 0 placed.lowest some (sym (get_or-take (on.end - on.start) along (k - 1) 0 (next_inside some))) (eh ∙ rw (en, ea, eb) refl) er

@@ -6,133 +6,125 @@
 ghost use Rattle.std.specs.Prelude.{◌≡◌, ◌↔◌, true, ◌+◌, ◌-◌, ◌≤◌, ◌<◌, length};
 ghost use Rattle.manifest.specs.Manifest.{footprint_at};
 ghost use Rattle.pairrules.specs.PairRules.{disjoint_at, in_order_at, Each, EachTwo, place_at};
-ghost use Rattle.placement.specs.Placed.{TruckRows, RowsByX, braced_at, PlacedRows};
+ghost use Rattle.placement.specs.Placed.{TruckRows, braced_at, PlacedRows};
 
+use along::Trailer;
 use manifest::{Block, footprint_at, row, row_word};
+use meaning::Place;
 use pairrules::{disjoint, in_contact, in_loading_order, order_by};
-use search::{Found, lower_of, place_if};
-use table::as_index;
+use search::{lower_of, place_if};
 use views::Footprint;
+
+mod along;
 
 #[derive(Clone, Copy)]
 pub struct Placement {
     pub apart: bool, // 23: no two overlap
     pub in_order: bool, // 25: where no two overlap, each two keep the loading order
-    pub unbraced: Found, // 24: the lowest stack that is not braced
+    pub unbraced: Option<Place>, // 24: the lowest stack that is not braced
 }
 
-// The place in the rows of the k-th stack along the trailer.
-fn place_along(on: Block, along: &[u32], k: usize) -> usize
-    requires { (k < length along.now) × (on.end ≤ 16777216) × (on.start ≤ on.end) }
-    ensures { result ≡ place_at on along.now k }
-{
-    on.start + as_index(along[k])
-}
+impl<'a> Trailer<'a> {
+    // The place in the rows of the k-th stack along the trailer.
+    fn place(self, k: usize) -> usize
+        requires { k < self.on.end - self.on.start }
+        ensures { result ≡ place_at self.entry.on self.entry.along.now k }
+    {
+        self.on.start + (self.along[k] as usize)
+    }
 
-// The ground that the k-th stack takes.
-fn footprint_along(rows: &[u32], on: Block, along: &[u32], k: usize) -> Footprint
-    requires { RowsByX rows.now on along.now × (k < on.end - on.start) }
-    ensures { result ≡ footprint_at rows.now (place_at on along.now k) }
-{
-    footprint_at(rows, place_along(on, along, k))
-}
+    // The ground that the k-th stack takes.
+    fn footprint(self, k: usize) -> Footprint
+        requires { k < self.on.end - self.on.start }
+        ensures { result ≡ footprint_at self.entry.rows.now (place_at self.entry.on self.entry.along.now k) }
+    {
+        footprint_at(self.rows, self.place(k))
+    }
 
-// 23 overlap: whether no stack further along overlaps the k-th. Those that begin where it ends, or behind, cannot.
-fn is_clear(rows: &[u32], on: Block, along: &[u32], k: usize) -> bool
-    requires { RowsByX rows.now on along.now × (k < on.end - on.start) }
-    ensures { (result ≡ true) ↔ Each (λ j. disjoint_at rows.now (place_at on along.now k) (place_at on along.now j)
-        ≡ true) (k + 1) (on.end - on.start) }
-{
-    let ground = footprint_along(rows, on, along, k);
-    let count = on.end - on.start;
-    let mut j = k + 1;
-    while j < count {
-        let other = footprint_along(rows, on, along, j);
-        if ground.xe <= other.x {
+    // 23 overlap: whether no stack further along overlaps the k-th. Those that begin where it ends, or behind, cannot.
+    fn is_clear(self, k: usize) -> bool
+        requires { k < self.on.end - self.on.start }
+        ensures { (result ≡ true) ↔ Each (λ j. disjoint_at self.entry.rows.now (place_at self.entry.on self.entry.along.now k)
+            (place_at self.entry.on self.entry.along.now j) ≡ true) (k + 1) (self.entry.on.end - self.entry.on.start) }
+    {
+        let ground = self.footprint(k);
+        for j in k + 1..self.on.end - self.on.start {
+            let other = self.footprint(j);
+            if ground.xe <= other.x {
+                return true;
+            }
+            if !disjoint(ground, other) {
+                return false;
+            }
+        }
+        true
+    }
+
+    // 24 unbraced: whether the k-th stack stands at the front wall or is braced by another. What braces it ends where it begins and has an
+    // extent, so it is found among those before it, and there among the nearest.
+    fn is_braced(self, k: usize) -> bool
+        requires { k < self.on.end - self.on.start }
+        ensures { result ≡ braced_at self.entry.rows.now self.entry.on (place_at self.entry.on self.entry.along.now k) }
+    {
+        let ground = self.footprint(k);
+        if ground.x == 0 {
             return true;
         }
-        if !disjoint(ground, other) {
-            return false;
+        for j in (0..k).rev() {
+            if in_contact(ground, self.footprint(j)) {
+                return true;
+            }
         }
-        j += 1;
+        false
     }
-    true
-}
 
-// 24 unbraced: whether the k-th stack stands at the front wall or is braced by another. What braces it ends where it begins and has an
-// extent, so it is found among those before it, and there among the nearest.
-fn is_braced(rows: &[u32], on: Block, along: &[u32], k: usize) -> bool
-    requires { RowsByX rows.now on along.now × (k < on.end - on.start) }
-    ensures { result ≡ braced_at rows.now on (place_at on along.now k) }
-{
-    let ground = footprint_along(rows, on, along, k);
-    if ground.x == 0 {
-        return true;
-    }
-    let mut j = k;
-    while 0 < j {
-        j -= 1;
-        if in_contact(ground, footprint_along(rows, on, along, j)) {
-            return true;
+    // 25 order: whether the k-th stack keeps the loading order with those before it. It has x no greater than those behind it, so with them
+    // it keeps the order anyway.
+    fn is_in_order(self, k: usize) -> bool
+        requires { k < self.on.end - self.on.start }
+        ensures { (result ≡ true) ↔ Each (λ j. in_order_at self.entry.rows.now (place_at self.entry.on self.entry.along.now k)
+            (place_at self.entry.on self.entry.along.now j) ≡ true) 0 k }
+    {
+        let place = self.place(k);
+        for j in 0..k {
+            if !in_loading_order(self.rows, place, self.place(j)) {
+                return false;
+            }
         }
+        true
     }
-    false
-}
 
-// 25 order: whether the k-th stack keeps the loading order with those before it. It has x no greater than those behind it, so with them it
-// keeps the order anyway.
-fn is_in_order(rows: &[u32], on: Block, along: &[u32], k: usize) -> bool
-    requires { RowsByX rows.now on along.now × (k < on.end - on.start) }
-    ensures { (result ≡ true) ↔ Each (λ j. in_order_at rows.now (place_at on along.now k) (place_at on along.now j)
-        ≡ true) 0 k }
-{
-    let place = place_along(on, along, k);
-    let mut j = 0;
-    while j < k {
-        if !in_loading_order(rows, place, place_along(on, along, j)) {
-            return false;
+    // 25 order: whether each two stacks keep the loading order.
+    fn are_in_order(self) -> bool
+        ensures { (result ≡ true) ↔ EachTwo (λ j k. in_order_at self.entry.rows.now j k ≡ true) self.entry.on.start self.entry.on.end }
+    {
+        for k in 0..self.on.end - self.on.start {
+            if !self.is_in_order(k) {
+                return false;
+            }
         }
-        j += 1;
+        true
     }
-    true
-}
 
-// 25 order: whether each two stacks keep the loading order.
-fn are_in_order(rows: &[u32], on: Block, along: &[u32]) -> bool
-    requires { RowsByX rows.now on along.now }
-    ensures { (result ≡ true) ↔ EachTwo (λ j k. in_order_at rows.now j k ≡ true) on.start on.end }
-{
-    let count = on.end - on.start;
-    let mut k = 0;
-    while k < count {
-        if !is_in_order(rows, on, along, k) {
-            return false;
+    // 23 and 24, stack by stack; then 25, which looks at many pairs. A plan with stacks that overlap is refused by 23, so there it is not
+    // asked.
+    fn placement(self) -> Placement
+        ensures { PlacedRows self.entry.rows.now self.entry.on result }
+    {
+        let mut apart = true;
+        let mut unbraced = None;
+        for k in (0..self.on.end - self.on.start).rev() {
+            let number = row_word(self.rows, self.place(k), row::NUMBER);
+            let here = place_if(!self.is_braced(k), number, 0, 0);
+            unbraced = lower_of(here, unbraced);
+            apart = apart && self.is_clear(k);
         }
-        k += 1;
-    }
-    true
-}
-
-// 23 and 24, stack by stack; then 25, which looks at many pairs. A plan with stacks that overlap is refused by 23, so there it is not asked.
-fn placement_along(rows: &[u32], on: Block, along: &[u32]) -> Placement
-    requires { RowsByX rows.now on along.now }
-    ensures { PlacedRows rows.now on result }
-{
-    let mut apart = true;
-    let mut unbraced = Found::Nothing;
-    let mut k = on.end - on.start;
-    while 0 < k {
-        k -= 1;
-        let number = row_word(rows, place_along(on, along, k), row::NUMBER);
-        let here = place_if(!is_braced(rows, on, along, k), number, 0, 0);
-        unbraced = lower_of(here, unbraced);
-        apart = apart && is_clear(rows, on, along, k);
-    }
-    let in_order = apart && are_in_order(rows, on, along);
-    Placement {
-        apart,
-        in_order,
-        unbraced,
+        let in_order = apart && self.are_in_order();
+        Placement {
+            apart,
+            in_order,
+            unbraced,
+        }
     }
 }
 
@@ -143,5 +135,5 @@ pub fn truck_placement(rows: &[u32], on: Block, keys: &mut [u64], along: &mut [u
     ensures lengths { (length keys.new ≡ length keys.old) × (length along.new ≡ length along.old) }
 {
     order_by(rows, on, row::X, keys, along);
-    placement_along(rows, on, along)
+    Trailer { rows, on, along }.placement()
 }

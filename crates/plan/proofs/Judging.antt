@@ -1,11 +1,9 @@
 -- The two lines of a stack, from what is stored and tested to what is read.
 use mathlib.Core.Path.{◌≡◌, refl, sym, ap, ◌∙◌}
-use mathlib.Core.Bool.{Bool, true, false, cond, not, ◌&&◌}
+use mathlib.Core.Bool.{Bool, true, false, not, ◌&&◌}
 use mathlib.Core.List.{List}
-use Prim.Native.Nat.{ℕ, ◌+◌, ◌-◌, ◌*◌, ◌≤◌, ◌<◌}
-use native.Mathlib.Nat.{sub-zero}
+use Prim.Native.Nat.{ℕ, ◌+◌, ◌*◌, ◌≤◌, ◌<◌}
 use native.Mathlib.Omega.{arith}
-use borrow.Author.Tests.{leb-true}
 use lib.Dec.{leb}
 use lib.ListN.{length, get_or, take, drop}
 use lib.Seq.{take_at, length-take-le}
@@ -16,10 +14,9 @@ use Rattle.meaning.specs.Files.{all_within, stack_ranges, stack_line, load_line}
 use Rattle.meaning.specs.Model.{stack_number}
 use Rattle.meaning.proofs.Tests.{and_reads}
 use Rattle.meaning.proofs.Fields.{ranges_below, range_below}
-use Rattle.lines.specs.declared.Progress.{Progress}
-use Rattle.lines.specs.declared.EntriesAnswer.{EntriesAnswer}
-use Rattle.lines.specs.Progress.{Going, RefusesLargest, ReadEntries}
-use Rattle.lines.proofs.Judging.{read_count}
+use Rattle.std.specs.Prelude.{Ok, Err}
+use Rattle.lines.specs.declared.LineValue.{LineValue}
+use Rattle.lines.specs.Progress.{Progress, RefusesLargest, StoredLine, entries_of, judged_entries_as, ReadEntries}
 use Rattle.ranges.specs.Ranges.{row_numbers}
 use Rattle.plan.specs.Words.{spliced}
 use Rattle.plan.proofs.Splices.{put_spliced, spliced_there, spliced_first}
@@ -58,24 +55,25 @@ row_fits part row trucks k size h l z =
 
 -- ---- a load
 -- the test as it is made on so many words, together with those loaded
-pub load_fits : {in_range_lem ok : Bool} (load : List ℕ) (most items loaded count : ℕ) → count ≤ length load → in_range_lem ≡ all (between 1 items) (take (count - 0) load)
+pub load_fits : {in_range_lem ok : Bool} (load : List ℕ) (most items loaded count : ℕ) → count ≤ length load → in_range_lem ≡ all (between 1 items) (take count load)
     → ok ≡ (in_range_lem && leb (loaded + count) most) → ok ≡ (load_line most items loaded).fits (take count load)
 load_fits load most items loaded count h first both =
-    both ∙ ap (λ (b : Bool). b && leb (loaded + count) most) (rw (sub-zero count) at first) ∙ rw (length-take-le count load h) refl
+    both ∙ ap (λ (b : Bool). b && leb (loaded + count) most) first ∙ rw (length-take-le count load h) refl
 
--- what is kept of a line has room, which is part of the test
-pub kept_room : (loaded count most : ℕ) (in_range_lem ok : Bool) → ok ≡ (in_range_lem && leb (loaded + count) most) → loaded ≤ most
-    → (cond ok count 0 ≤ count) × (loaded + cond ok count 0 ≤ most)
-kept_room loaded count most in_range_lem true e h = (omega arith, leb-true (loaded + count) most ((and_reads in_range_lem (leb (loaded + count) most)).0 (sym e)).1)
-kept_room loaded count most in_range_lem false e h = (omega arith, omega arith)
+-- a line that is kept has the entries that were stored
+pub kept_count : (r : StoredLine) (ok : Bool) {f : LineValue ℕ} → judged_entries_as r ok ≡ Ok f → f.value ≡ entries_of r
+kept_count (Ok l) true {f} e = let same : record { value = l.count; next = l.next } ≡ f = cc in ap (λ (x : LineValue ℕ). x.value) (sym same)
+kept_count (Ok l) false e = cc
+kept_count (Err x) ok e = cc
 
 -- so many of the words that were read, in the place of others
-pub load_within : {file load : List ℕ} {reader : Reader (List ℕ)} (n : ℕ) {p : Progress} {r : EntriesAnswer} (loads : List ℕ) (loaded kept : ℕ) → kept ≡ r.count
-    → ReadEntries file reader (padded n) p r load → ReadEntries file reader (λ l. spliced loaded l loads) p r (spliced loaded (take kept load) loads)
-load_within {load = load} n {r = r} loads loaded kept e i =
+pub load_within : {file load : List ℕ} {reader : Reader (List ℕ)} (n : ℕ) {p : Progress} {f : LineValue ℕ} (loads : List ℕ) (loaded : ℕ)
+    → ReadEntries file reader (padded n) p (Ok f) load
+    → ReadEntries file reader (λ l. spliced loaded l loads) p (Ok f) (spliced loaded (take f.value load) loads)
+load_within {load = load} n {f = f} loads loaded i =
     let value = i.into.value in
-    let stands : Going r.progress → take kept load ≡ value = λ g. ap (take kept) (i.into.holds g) ∙ take_at value _ kept (sym (e ∙ read_count i g)) in
+    let stands : take f.value load ≡ value = ap (take f.value) (i.into.holds tt) ∙ take_at value _ f.value (sym i.count) in
     record {
-      into = record { value = value; says = i.into.says; holds = λ g. ap (λ (l : List ℕ). spliced loaded l loads) (stands g); within = i.into.within };
+      into = record { value = value; says = i.into.says; holds = λ g. ap (λ (l : List ℕ). spliced loaded l loads) stands; within = i.into.within };
       count = i.count;
     }

@@ -1,24 +1,12 @@
--- Words copied over others, and words in the place of others.
+-- Words in the place of others.
 use mathlib.Core.Path.{◌≡◌, refl, sym, ap, ◌∙◌}
-use mathlib.Core.List.{List, ◌++◌, append-nil}
-use Prim.Native.Nat.{ℕ, suc, ◌+◌, ◌≤◌, ◌<◌}
-use native.Mathlib.Numerals.{add-one}
+use mathlib.Core.List.{List, ◌++◌}
+use Prim.Native.Nat.{ℕ, ◌+◌, ◌≤◌, ◌<◌}
 use native.Mathlib.Omega.{arith}
-use lib.ListN.{length, get_or, take, drop, set, drop_of_length-le, get_or-append}
-use lib.Seq.{take-suc, drop-cons, take_all, set_at, take_at, drop_at, drop-drop, length-take-le, append_snoc, get_or-drop}
+use lib.ListN.{length, get_or, take, drop, get_or-append}
+use lib.Seq.{take_at, drop_at, drop-drop, length-take-le, get_or-drop}
 use borrow.Rule.Slice.PartMut.{put_mid}
 use Rattle.plan.specs.Words.{spliced}
-
--- ---- a copy, word by word: the first i words are the new ones
-module _ (from to : List ℕ) (i : ℕ) where
-  pub copy_next : i < length from → i < length to → set (take i from ++ drop i to) i (get_or from i 0) ≡ take (i + 1) from ++ drop (i + 1) to
-  copy_next h k =
-      let l : length (take i from) ≡ i = length-take-le i from (omega arith) in
-      rw (add-one, drop-cons to i 0, take-suc from i 0)
-      (set_at (take i from) (get_or to i 0) (drop (suc i) to) (get_or from i 0) i l ∙ sym (append_snoc (take i from) (get_or from i 0) (drop (suc i) to)))
-
-  pub copy_done : length from ≤ i → length to ≤ i → take i from ++ drop i to ≡ from
-  copy_done h k = rw (take_all i from h, drop_of_length-le to k, append-nil) refl
 
 -- ---- ys in the place of words of xs
 module _ (at : ℕ) (xs ys : List ℕ) where

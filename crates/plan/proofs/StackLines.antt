@@ -5,24 +5,23 @@ use Prim.Native.Nat.{ℕ, zero, suc, ◌+◌, ◌-◌, ◌*◌, ◌≤◌, ◌<�
 use native.Mathlib.Nat.{sub-zero}
 use native.Mathlib.Omega.{arith}
 use borrow.Rule.Slice.PartMut.{mid_of, put_mid}
-use lib.ListN.{length, drop, set, replicate, length-append, length-replicate, length-take, length-drop}
+use lib.ListN.{length, drop, set, replicate, length-append, length-take, length-drop}
 use Rattle.meaning.specs.declared.Limits.{Limits}
 use Rattle.meaning.specs.Reader.{Outcome, found, wrong_form, out_of_range, Reader, give, line, onward, ◌>>=◌}
 use Rattle.meaning.specs.Files.{stack_line, load_line, stack_lines}
 use Rattle.meaning.specs.Model.{Stack, stack_number}
 use Rattle.meaning.specs.Table.{load_entries}
 use Rattle.meaning.proofs.Outcomes.{Leaves, leaves_onward, leaves_line}
-use Rattle.lines.specs.declared.Progress.{Progress}
-use Rattle.lines.specs.declared.Progress.TheVariants.{Next, WrongForm, OutOfRange}
-use Rattle.lines.specs.declared.EntriesAnswer.{EntriesAnswer}
-use Rattle.lines.specs.Progress.{reached, resumed, Going, WithinFile, ReadInto, ReadEntries}
-use Rattle.lines.proofs.Follow.{onward_same, onward_twice, onward_give, leaves_then}
-use Rattle.lines.proofs.Follow.{onward_reached, past_reader, given_reached, no_refusal, same_resumed, read_has, read_meets}
-use Rattle.lines.proofs.Judging.{read_count}
+use Rattle.std.specs.Prelude.{Ok, Err, IsErrAnd}
+use Rattle.lines.specs.declared.LineRefused.{LineRefused}
+use Rattle.lines.specs.declared.Cursor.{Cursor}
+use Rattle.lines.specs.declared.LineValue.{LineValue}
+use Rattle.lines.specs.Progress.{Progress, reached, resumed, WithinFile, LineResult, ReadInto, ReadEntries}
+use Rattle.lines.proofs.Follow.{onward_same, onward_twice, onward_give, leaves_then, onward_refused, behind, stopped, handed_on}
+use Rattle.lines.proofs.Follow.{onward_reached, past_reader, given_reached, same_resumed, read_has, read_meets}
 use Rattle.ranges.specs.Ranges.{row_numbers}
 use Rattle.plan.specs.declared.Counts.{Counts}
-use Rattle.plan.specs.declared.StacksRead.{StacksRead}
-use Rattle.plan.specs.Words.{spliced, one_stack, StackPromise, plan_words}
+use Rattle.plan.specs.Words.{spliced, one_stack, with_stack, StackPromise, plan_words}
 use Rattle.plan.proofs.StackWords.{earlier_numbers, SixFields, earlier_more, loads_more, HoldsStacks, holds_none, holds_earlier, holds_more, stack_put}
 
 -- a stack of its two lines
@@ -61,6 +60,25 @@ module _ (most items trucks : ℕ) where
       ∙ past_reader file q r load _ (λ l. give (stack_of fields l)) second
       ∙ given_reached file (stack_of fields load) r)
 
+  -- a refusal of either line is one of the stack
+  no_stack : Stack
+  no_stack = stack_of [] []
+
+  abbrev load_of : ℕ → List ℕ → Reader Stack
+  load_of loaded fields = line (load_line most items loaded) >>= λ load. give (stack_of fields load)
+
+  module _ (earlier : List ℕ) (loaded : ℕ) {file : List ℕ} {p : Progress} where
+    pub row_refused : {e : LineRefused} {w : List ℕ → List ℕ} {w' : Stack → List ℕ} {front out : List ℕ} → ReadInto file (line (stack_line trucks earlier)) w p (Err e) front
+        → ReadInto file (one_stack most items trucks earlier loaded) w' p (Err e) out
+    unfolding one_stack
+    row_refused row = stopped row (load_of loaded) no_stack
+
+    pub load_refused : {q : Progress} {e : LineRefused} {w v : List ℕ → List ℕ} {w' : Stack → List ℕ} {front back out : List ℕ}
+        → ReadInto file (line (stack_line trucks earlier)) w p q front → ReadInto file (line (load_line most items loaded)) v q (Err e) back
+        → ReadInto file (one_stack most items trucks earlier loaded) w' p (Err e) out
+    unfolding one_stack
+    load_refused row load = behind row (load_of loaded) (stopped load (λ l. give (stack_of row.value l)) no_stack)
+
   -- ---- the stacks that are left
   -- so many stacks behind those that were read
   abbrev pub later : ℕ → List Stack → Reader (List Stack)
@@ -69,9 +87,8 @@ module _ (most items trucks : ℕ) where
   -- before the first
   later_first : (file : List ℕ) (count : ℕ) (p : Progress) → onward (reached file [] p) (later count) ≡ resumed file p (stack_lines most items trucks count [] 0)
   unfolding onward earlier_numbers load_entries flat_map
-  later_first file count (Next c) = onward_give (stack_lines most items trucks count [] 0 (suc c.line) (drop c.at file))
-  later_first file count (WrongForm n) = refl
-  later_first file count (OutOfRange n) = refl
+  later_first file count (Ok c) = onward_give (stack_lines most items trucks count [] 0 (suc c.line) (drop c.at file))
+  later_first file count (Err e) = onward_refused e (later count)
 
   -- one of them, and then one fewer
   later_one : (count : ℕ) (ss : List Stack) (n : ℕ) (bs : List ℕ)
@@ -128,118 +145,128 @@ module _ (most items trucks : ℕ) where
     later_done = go q
       where
         go : (q : Progress) → onward (reached file ss q) (later 0) ≡ reached file ss q
-        go (Next c) = ap (λ (l : List Stack). found l (suc c.line) (drop c.at file)) (append-nil ss)
-        go (WrongForm n) = refl
-        go (OutOfRange n) = refl
+        go (Ok c) = ap (λ (l : List Stack). found l (suc c.line) (drop c.at file)) (append-nil ss)
+        go (Err e) = onward_refused e (later 0)
 
 -- ---- one stack, as the code reads it
-module _ (m : Limits) (counts : Counts) (file part₀ part₁ ys : List ℕ) (q : StacksRead) (p : Progress) (r : EntriesAnswer) where
+-- a refusal has no number of entries
+pub stack_refused : {m : Limits} {counts : Counts} {file : List ℕ} {k : ℕ} {before : LineValue ℕ} {e : LineRefused} {part₀ part : List ℕ} (r : LineResult ℕ)
+    → IsErrAnd r (λ x. x ≡ e)
+    → ReadInto file (one_stack m.loads counts.items counts.trucks (row_numbers k part₀) before.value) (with_stack m k before.value part₀) (Ok before.next) (Err e) part
+    → StackPromise m counts file k before r part₀ part
+stack_refused (Ok f) h i = absurd h
+stack_refused (Err x) h i = record { into = handed_on h i; loaded = tt; within = tt }
+
+module _ (m : Limits) (counts : Counts) (file part₀ part₁ ys : List ℕ) (k : ℕ) (before : LineValue ℕ) (p : Cursor) (r : LineValue ℕ) where
   -- the part of the loads
   abbrev lent : List ℕ
   lent = mid_of (8 * m.stacks) (length part₁ - 8 * m.stacks) part₁
 
-  pub stack_read : q.stacks < m.stacks → q.loaded ≤ m.loads → length part₀ ≡ 8 * m.stacks + m.loads → length part₁ ≡ length part₀ → length ys ≡ length lent
-      → ReadInto file (line (stack_line counts.trucks (row_numbers q.stacks part₀))) (λ fields. spliced (8 * q.stacks) fields part₀) q.progress p part₁
-      → ReadEntries file (line (load_line (length lent) counts.items q.loaded)) (λ load. spliced q.loaded load lent) p r ys
-      → q.loaded + r.count ≤ length lent
-      → StackPromise m counts file q (record { progress = r.progress; stacks = q.stacks + 1; loaded = q.loaded + r.count }) part₀
-      (set (set (put_mid (8 * m.stacks) (length part₁ - 8 * m.stacks) part₁ ys) (8 * q.stacks + 6) q.loaded) (8 * q.stacks + 7) r.count)
+  pub stack_read : k < m.stacks → before.value ≤ m.loads → length part₀ ≡ 8 * m.stacks + m.loads → length part₁ ≡ length part₀ → length ys ≡ length lent
+      → ReadInto file (line (stack_line counts.trucks (row_numbers k part₀))) (λ fields. spliced (8 * k) fields part₀) (Ok before.next) (Ok p) part₁
+      → ReadEntries file (line (load_line (length lent) counts.items before.value)) (λ load. spliced before.value load lent) (Ok p) (Ok r) ys
+      → before.value + r.value ≤ length lent
+      → StackPromise m counts file k before (Ok (record { value = before.value + r.value; next = r.next })) part₀
+      (set (set (put_mid (8 * m.stacks) (length part₁ - 8 * m.stacks) part₁ ys) (8 * k + 6) before.value) (8 * k + 7) r.value)
   stack_read h room long same lent_same row load within =
       let all : length lent ≡ m.loads = simp (length-take, length-drop) (omega arith) in
-      let earlier = row_numbers q.stacks part₀ in
+      let earlier = row_numbers k part₀ in
       let s = stack_of row.value load.into.value in
+      let meets = read_meets file row.value (stack_line counts.trucks earlier) (Ok before.next) (Ok p) row.says tt in
       record {
         into =
             record {
               value = s;
               says =
-                  stack_says m.loads counts.items counts.trucks file earlier q.loaded q.progress p r.progress row.value load.into.value
+                  stack_says m.loads counts.items counts.trucks file earlier before.value (Ok before.next) (Ok p) (Ok r.next) row.value load.into.value
                   row.says (rw all at load.into.says);
               holds = λ going.
-                  let goingRow = no_refusal load.into going in
-                  let meets = read_meets file row.value (stack_line counts.trucks earlier) q.progress p row.says goingRow in
-                  stack_put m q.stacks q.loaded r.count s part₀ part₁ ys (omega (arith, meets.least, meets.most)) h room (read_count load going) long same
-                  lent_same (row.holds goingRow) (load.into.holds going);
+                  stack_put m k before.value r.value s part₀ part₁ ys (omega (arith, meets.least, meets.most)) h room load.count long same
+                  lent_same (row.holds tt) (load.into.holds tt);
               within = load.into.within;
             };
-        stacks = refl;
-        loaded = λ going. ap (λ (n : ℕ). q.loaded + n) (read_count load going);
+        loaded = ap (λ (n : ℕ). before.value + n) load.count;
         within = omega (arith, all);
       }
 
--- ---- the state of the loop: of `count` stacks so many are read. What was read, then what is left, is the whole answer
-pub record SoFar (m : Limits) (counts : Counts) (count : ℕ) (file : List ℕ) (p : Progress) (part : List ℕ) (q : StacksRead) : Type 0 where
+-- ---- the state of the loop: of `count` stacks k are read. What was read, then what is left, is the whole answer
+pub record SoFar (m : Limits) (counts : Counts) (count : ℕ) (file : List ℕ) (p : Progress) (part : List ℕ) (k : ℕ) (q : LineValue ℕ) : Type 0 where
   pub stacks : List Stack
-  pub many : length stacks ≡ q.stacks
-  pub below : q.stacks ≤ count
-  pub fits : count ≤ m.stacks
-  pub room : q.loaded ≤ m.loads
-  pub long : length part ≡ 8 * m.stacks + m.loads
-  pub within : WithinFile file q.progress
-  pub held : Going q.progress → HoldsStacks m stacks q.loaded part
-  pub says : onward (reached file stacks q.progress) (later m.loads counts.items counts.trucks (count - q.stacks))
+  pub many : length stacks ≡ k
+  pub room : q.value ≤ m.loads
+  pub within : WithinFile file (Ok q.next)
+  pub held : HoldsStacks m stacks q.value part
+  pub says : onward (reached file stacks (Ok q.next)) (later m.loads counts.items counts.trucks (count - k))
       ≡ resumed file p (stack_lines m.loads counts.items counts.trucks count [] 0)
 
-pub so_far_first : (m : Limits) (counts : Counts) (count : ℕ) (file : List ℕ) (p : Progress) (part : List ℕ)
-    → part ≡ replicate (8 * m.stacks + m.loads) 0 → WithinFile file p → count ≤ m.stacks
-    → SoFar m counts count file p part (record { progress = p; stacks = 0; loaded = 0 })
-so_far_first m counts count file p part cleared within fits =
+pub so_far_first : (m : Limits) (counts : Counts) (count : ℕ) (file : List ℕ) (here : Cursor) (part : List ℕ)
+    → part ≡ replicate (8 * m.stacks + m.loads) 0 → WithinFile file (Ok here) → SoFar m counts count file (Ok here) part 0 (record { value = 0; next = here })
+so_far_first m counts count file here part cleared within =
     record {
       stacks = [];
       many = refl;
-      below = omega arith;
-      fits = fits;
       room = omega arith;
-      long = ap length cleared ∙ length-replicate {A = ℕ} (8 * m.stacks + m.loads) 0;
       within = within;
-      held = λ going. holds_none m part cleared;
-      says = rw (sub-zero count) (later_first m.loads counts.items counts.trucks file count p);
+      held = holds_none m part cleared;
+      says = rw (sub-zero count) (later_first m.loads counts.items counts.trucks file count (Ok here));
     }
 
-module _ {m : Limits} {counts : Counts} {count : ℕ} {file : List ℕ} {p : Progress} {part : List ℕ} {q : StacksRead}
-    (t : SoFar m counts count file p part q) where
+module _ {m : Limits} {counts : Counts} {count : ℕ} {file : List ℕ} {p : Progress} {part : List ℕ} {k : ℕ} {q : LineValue ℕ}
+    (t : SoFar m counts count file p part k q) where
+  -- a stack that is read now is read behind those before
+  follows : {w : Stack → List ℕ} {r : Progress} {out : List ℕ}
+      → (one : ReadInto file (one_stack m.loads counts.items counts.trucks (row_numbers k part) q.value) w (Ok q.next) r out)
+      → reached file one.value r
+      ≡ resumed file (Ok q.next) (one_stack m.loads counts.items counts.trucks (earlier_numbers t.stacks) (length (load_entries t.stacks)))
+  follows one =
+      one.says ∙ same_resumed file (Ok q.next) _ _ (λ going.
+      ap₂ (one_stack m.loads counts.items counts.trucks) (ap (λ (n : ℕ). row_numbers n part) (sym t.many) ∙ holds_earlier t.held) t.held.counted)
+
   -- one stack more
-  pub so_far_next : (r : StacksRead) (part' : List ℕ) → q.stacks < count → length part' ≡ length part
-      → StackPromise m counts file q r part part' → SoFar m counts count file p part' r
-  so_far_next r part' h same one =
+  pub so_far_next : {r : LineValue ℕ} {part' : List ℕ} → k < count → count ≤ m.stacks → StackPromise m counts file k q (Ok r) part part'
+      → SoFar m counts count file p part' (k + 1) r
+  so_far_next {r} h fits one =
       let s = one.into.value in
       let ss = t.stacks in
-      let left : count - q.stacks ≡ suc (count - r.stacks) = omega (arith, one.stacks) in
-      let follows : reached file s r.progress
-      ≡ resumed file q.progress (one_stack m.loads counts.items counts.trucks (earlier_numbers ss) (length (load_entries ss))) =
-      one.into.says ∙ same_resumed file q.progress _ _ (λ going.
-      let held = t.held going in
-      ap₂ (one_stack m.loads counts.items counts.trucks) (ap (λ (n : ℕ). row_numbers n part) (sym t.many) ∙ holds_earlier held) held.counted)
+      let left : count - k ≡ suc (count - (k + 1)) = omega arith in
+      let six =
+      read_has file s SixFields (Ok q.next) (Ok r.next) _ (one_six m.loads counts.items counts.trucks (row_numbers k part) q.value) one.into.says tt
       in
+      let more = holds_more t.held s six (omega (arith, t.many)) (omega (arith, one.within, one.loaded)) in
       record {
         stacks = ss ++ s ∷ [];
-        many = length-append ss (s ∷ []) ∙ omega (arith, t.many, one.stacks);
-        below = omega (arith, one.stacks);
-        fits = t.fits;
+        many = length-append ss (s ∷ []) ∙ omega (arith, t.many);
         room = one.within;
-        long = same ∙ t.long;
         within = one.into.within;
-        held = λ going.
-            let six =
-            read_has file s SixFields q.progress r.progress _
-            (one_six m.loads counts.items counts.trucks (row_numbers q.stacks part) q.loaded) one.into.says going
-            in
-            let more =
-            holds_more (t.held (no_refusal one.into going)) s six (omega (arith, t.many, t.fits)) (omega (arith, one.within, one.loaded going))
-            in
-            rw (one.loaded going, one.into.holds going, ← t.many) more;
+        held = rw (one.loaded, one.into.holds tt, ← t.many) more;
         says =
-            sym (later_next m.loads counts.items counts.trucks file ss q.progress (count - r.stacks) s r.progress follows)
+            sym (later_next m.loads counts.items counts.trucks file ss (Ok q.next) (count - (k + 1)) s (Ok r.next) (follows one.into))
             ∙ rw left at t.says;
       }
 
+  -- a refusal ends the reading
+  pub so_far_refused : {e : LineRefused} {part' out : List ℕ} → k < count → StackPromise m counts file k q (Err e) part part'
+      → ReadInto file (stack_lines m.loads counts.items counts.trucks count [] 0) (plan_words m) p (Err e) out
+  so_far_refused {e} h one =
+      let rest = count - (k + 1) in
+      let left : count - k ≡ suc rest = omega arith in
+      record {
+        value = t.stacks ++ one.into.value ∷ [];
+        says =
+            sym (onward_refused e (later m.loads counts.items counts.trucks rest))
+            ∙ sym (later_next m.loads counts.items counts.trucks file t.stacks (Ok q.next) rest one.into.value (Err e) (follows one.into))
+            ∙ rw left at t.says;
+        holds = λ going. absurd going;
+        within = one.into.within;
+      }
+
   -- all are read
-  pub so_far_done : count ≤ q.stacks → ReadInto file (stack_lines m.loads counts.items counts.trucks count [] 0) (plan_words m) p q.progress part
+  pub so_far_done : k ≡ count → ReadInto file (stack_lines m.loads counts.items counts.trucks count [] 0) (plan_words m) p (Ok q.next) part
   so_far_done h =
-      let none : count - q.stacks ≡ 0 = omega arith in
+      let none : count - k ≡ 0 = omega arith in
       record {
         value = t.stacks;
-        says = sym (later_done m.loads counts.items counts.trucks file t.stacks q.progress) ∙ rw none at t.says;
-        holds = λ going. (t.held going).words;
+        says = sym (later_done m.loads counts.items counts.trucks file t.stacks (Ok q.next)) ∙ rw none at t.says;
+        holds = λ going. t.held.words;
         within = t.within;
       }

@@ -1,16 +1,14 @@
 -- A line as it is written: each number with what follows it, a comma or, behind the last, byte 10.
 use mathlib.Core.Path.{◌≡◌, refl, ap, ◌∙◌}
 use mathlib.Core.List.{List, [], ◌∷◌, ◌++◌, map, append_assoc}
-use Prim.Native.Nat.{ℕ, ◌+◌, ◌≤◌, ◌<◌}
+use Prim.Native.Nat.{ℕ, ◌+◌, ◌-◌, ◌≤◌, ◌<◌}
 use native.Mathlib.Omega.{arith}
-use lib.ListN.{length, get_or, drop, drop_of_length-le}
+use borrow.Rule.Slice.PartMut.{put_mid}
+use lib.ListN.{length, get_or, take, drop, drop_of_length-le}
 use Rattle.meaning.specs.Print.{digits, comma_joined}
 use Rattle.meaning.proofs.Lists.{drop_next}
-use Rattle.printing.specs.Wrote.{numbers_bytes, line_bytes}
-
--- the line is its key and then its numbers
-pub line_parts : (key ns : List ℕ) → line_bytes key ns ≡ key ++ numbers_bytes ns
-line_parts key ns = append_assoc key (comma_joined (map digits ns)) (10 ∷ [])
+use Rattle.printing.specs.Wrote.{Wrote, numbers_bytes}
+use Rattle.printing.proofs.Progress.{Onward, onward_run}
 
 -- what follows a number: where other numbers are behind it, a comma
 unfoldable pub separator : List ℕ → ℕ
@@ -37,6 +35,12 @@ module _ (ns : List ℕ) (i : ℕ) where
   pub next_number : i < length ns → separated (drop i ns) ≡ digits (get_or ns i 0) ++ separator (drop (i + 1) ns) ∷ separated (drop (i + 1) ns)
   unfolding separated
   next_number h = rw (drop_next ns i 0 h)
+
+  -- after the number what follows it is still to be written
+  pub number_behind : {whole before out part : List ℕ} {at n : ℕ} → i < length ns → Onward whole before out at (separated (drop i ns))
+      → Wrote (digits (get_or ns i 0)) (take (length out - at) (drop at out)) part n
+      → Onward whole before (put_mid at (length out - at) out part) (at + n) (separator (drop (i + 1) ns) ∷ separated (drop (i + 1) ns))
+  number_behind h o w = onward_run o w (next_number h)
 
   pub no_number : length ns ≤ i → separated (drop i ns) ≡ []
   unfolding separated

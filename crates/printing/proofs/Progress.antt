@@ -2,17 +2,12 @@
 use mathlib.Core.Path.{◌≡◌, refl, sym, ap, ◌∙◌}
 use mathlib.Core.List.{List, [], ◌∷◌, ◌++◌, flat_map, append_assoc, append-nil}
 use Prim.Native.Nat.{ℕ, ◌+◌, ◌-◌, ◌≤◌, ◌<◌}
-use native.Mathlib.Nat.{sub-zero}
 use native.Mathlib.Omega.{arith}
 use borrow.Rule.Slice.PartMut.{put_mid}
 use lib.ListN.{length, get_or, set, take, drop, length-append, length-take, length-drop, drop_of_length-le}
 use lib.Seq.{take_at, drop_at, set_at, take_all, drop-drop}
 use Rattle.meaning.proofs.Lists.{drop_next}
 use Rattle.printing.specs.Wrote.{Wrote}
-
--- a run that fills the front part that was lent for it
-pub wrote_front : {run before part : List ℕ} {n : ℕ} → n ≡ length run → part ≡ run → Wrote run before (put_mid 0 (n - 0) before part) n
-wrote_front {n = n} e same = record { count = e; after = rw (sub-zero n, same, e) refl }
 
 -- of the bytes `whole` the first `at` stand at the front of `out`, and `left` is still to be written; behind them `out` is as before
 pub record Onward (whole before out : List ℕ) (at : ℕ) (left : List ℕ) : Type 0 where

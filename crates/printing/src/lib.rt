@@ -5,18 +5,12 @@ ghost use Rattle.std.specs.Prelude.{◌≡◌, ◌≤◌, length};
 ghost use Rattle.meaning.specs.Print.{digits};
 ghost use Rattle.printing.specs.Wrote.{Wrote, numbers_bytes, line_bytes};
 
-// The same number, wider, so that the power of ten above it fits.
-fn widened(n: u32) -> u64
-    ensures { result ≡ n }
-{
-    n as u64
-}
-
-// How many digits a number has. Powers of ten are compared, so that each digit is worked out once, where it is written.
+// How many digits a number has. Powers of ten are compared, so that each digit is worked out once, where it is written. (By the library's
+// logarithm it takes longer.)
 fn digit_count(n: u32) -> usize
     ensures { (result ≡ length (digits n)) × (result ≤ 10) }
 {
-    let limit = widened(n);
+    let limit = n as u64;
     let mut count: usize = 1;
     let mut power: u64 = 10;
     while power <= limit {
@@ -26,7 +20,7 @@ fn digit_count(n: u32) -> usize
     count
 }
 
-// The digits of a number into as many bytes, from the last down.
+// The digits of a number into as many bytes, from the last down. (A loop over the places divides once more, which shows in the time.)
 fn put_digits(n: u32, out: &mut [u8])
     requires { length out.old ≡ length (digits n) }
     ensures { out.new ≡ digits n }
@@ -34,11 +28,11 @@ fn put_digits(n: u32, out: &mut [u8])
     let mut rest = n;
     let mut at = out.len() - 1;
     while 10 <= rest {
-        out[at] = (48 + rest % 10) as u8;
+        out[at] = b'0' + (rest % 10) as u8;
         rest /= 10;
         at -= 1;
     }
-    out[at] = (48 + rest) as u8;
+    out[at] = b'0' + rest as u8;
 }
 
 // A number in decimal digits, without leading zero.
@@ -56,12 +50,8 @@ fn write_key(key: &[u8], out: &mut [u8]) -> usize
     requires { length key.now ≤ length out.old }
     ensures { Wrote key.now out.old out.new result }
 {
-    let mut i = 0;
-    while i < key.len() {
-        out[i] = key[i];
-        i += 1;
-    }
-    i
+    out[..key.len()].copy_from_slice(key);
+    key.len()
 }
 
 // The numbers of a line, with a comma between each two, and byte 10.
@@ -70,13 +60,11 @@ fn write_numbers(numbers: &[u32], out: &mut [u8]) -> usize
     ensures { Wrote (numbers_bytes numbers.now) out.old out.new result }
 {
     let mut at = 0;
-    let mut i = 0;
-    while i < numbers.len() {
-        at += write_number(numbers[i], &mut out[at..]);
-        let separator = if i + 1 == numbers.len() { 10 } else { 44 };
+    for (i, number) in numbers.iter().enumerate() {
+        at += write_number(*number, &mut out[at..]);
+        let separator = if i + 1 == numbers.len() { b'\n' } else { b',' };
         out[at] = separator;
         at += 1;
-        i += 1;
     }
     at
 }

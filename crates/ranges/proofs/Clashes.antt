@@ -2,17 +2,15 @@
 use mathlib.Core.Path.{◌≡◌, refl, sym, ap, subst, ◌∙◌}
 use mathlib.Core.Logic.{⊎_elim}
 use mathlib.Core.Bool.{Bool, true, false, not}
-use mathlib.Core.Option.{Option, none, some}
+use mathlib.Core.Option.{Option as Maybe, none, some}
 use mathlib.Core.List.{List, [], ◌∷◌, ◌++◌, map, flat_map}
 use Prim.Native.Nat.{ℕ, zero, suc, ◌+◌, ◌-◌, ◌*◌, ◌≤◌, ◌<◌}
 use native.Mathlib.Nat.{zero-add}
 use native.Mathlib.Omega.{arith}
-use borrow.Author.Tests.{eq-eqb, ne_eqb}
-use lib.Dec.{eqb}
 use lib.ListN.{length, get_or}
 use Rattle.meaning.specs.declared.Place.{Place}
 use Rattle.meaning.specs.Lists.{chunks, only_if, up_from, order_from, order_in, In}
-use Rattle.meaning.specs.Model.{Instance, Item, item, IL, IW, IS}
+use Rattle.meaning.specs.Model.{Instance, item, IS}
 use Rattle.meaning.specs.Places.{place, lower, lower_of, lowest}
 use Rattle.meaning.specs.Claims.{Before, IsLowest}
 use Rattle.meaning.specs.Check.{first_of_code, same_length_and_width, code_clashes}
@@ -21,17 +19,7 @@ use Rattle.meaning.proofs.Tests.{fails}
 use Rattle.meaning.proofs.Orders.{one_back, order-in, order_most}
 use Rattle.table.proofs.Parts.{length_chunks, chunk_at, length_made, made_at}
 use Rattle.meaning.proofs.Lowest.{before_reads, lowest_is}
-use Rattle.ranges.specs.Clashes.{item_at, items_in, clash_place}
-use Rattle.ranges.specs.declared.Clash.{Clash}
-use Rattle.ranges.specs.declared.Clash.TheVariants.{Between, Nowhere}
-
--- ---- two items, field by field
-module _ (a b : Item) {la lb : ℕ} (ea : la ≡ IL a) (eb : lb ≡ IL b) where
-  pub same_lengths : {wa wb : ℕ} → la ≡ lb → wa ≡ IW a → wb ≡ IW b → eqb wa wb ≡ same_length_and_width a b
-  same_lengths e fa fb = rw (fa, fb, eq-eqb (IL a) (IL b) (sym ea ∙ e ∙ eb))
-
-  pub other_lengths : (la ≡ lb → ⊥) → false ≡ same_length_and_width a b
-  other_lengths d = rw (ne_eqb (IL a) (IL b) (λ e. d (ea ∙ e ∙ sym eb)))
+use Rattle.ranges.specs.Clashes.{item_at, items_in}
 
 -- ---- words and items
 module _ (ws : List ℕ) (count : ℕ) where
@@ -103,56 +91,56 @@ lowest_first p ps below = go (lowest ps) (lowest_is ps)
     over : (q : Place) → In q ps → Before q p → ⊥
     over q m = ⊎_elim (λ h. omega (arith, below q m)) (λ h. omega (arith, below q m, h.0))
 
-    go : (o : Option Place) → IsLowest ps o → lower_of p o ≡ some p
+    go : (o : Maybe Place) → IsLowest ps o → lower_of p o ≡ some p
     go none h = refl
     go (some q) h = rw (fails (lower q p) (λ e. over q h.0 ((before_reads q p).0 e)))
 
--- the clash so far is the lowest of the items above n
-pub record LowestAbove (ws : List ℕ) (count n : ℕ) (clash : Clash) : Type 0 where
-  pub most : n ≤ count
-  pub is : clash_place clash ≡ lowest (clashes_above (items_in count ws) n)
+-- the clashes are those of the items above n
+pub record NoneUpTo (ws : List ℕ) (count n : ℕ) : Type 0 where
+  pub is : clashes_above (items_in count ws) n ≡ code_clashes (items_in count ws)
 
-pub none_yet : (ws : List ℕ) (count : ℕ) → LowestAbove ws count count Nowhere
+pub none_asked : (ws : List ℕ) (count : ℕ) → NoneUpTo ws count 0
+none_asked ws count = record { is = all_above (items_in count ws) }
+
+pub all_asked : {ws : List ℕ} {count n : ℕ} → NoneUpTo ws count n → n ≡ count → none ≡ lowest (code_clashes (items_in count ws))
 unfolding lowest
-none_yet ws count =
+all_asked {ws} {count} {n} h end =
     let none : clashes_above (items_in count ws) count ≡ [] = rw (items_counted ws count) at (none_above (items_in count ws)) in
-    record { most = omega arith; is = rw none }
+    let clear : code_clashes (items_in count ws) ≡ [] = sym h.is ∙ ap (clashes_above (items_in count ws)) end ∙ none in
+    rw clear
 
-pub all_asked : {ws : List ℕ} {count n : ℕ} {clash : Clash} → LowestAbove ws count n clash → n ≤ 0 → clash_place clash ≡ lowest (code_clashes (items_in count ws))
-all_asked {ws} {count} {n} h end = let e : n ≡ 0 = omega arith in rw (e, all_above (items_in count ws)) at h.is
-
--- one item down, with the item's code, the first item of that code and the test as the code found them
-module _ {ws : List ℕ} {count n code first : ℕ} {clash : Clash} (h : LowestAbove ws count n clash) (least : 1 ≤ n)
-    (has : code ≡ IS (item_at ws n)) (is-first : first ≡ order_in (codes ws count) code) where
+-- the next item, with the first item of its code and the test as the code found them
+module _ {ws : List ℕ} {count n first : ℕ} (h : NoneUpTo ws count n) (more : n < count)
+    (is-first : first ≡ order_in (codes ws count) (IS (item_at ws (n + 1)))) where
   -- the code is that of some item, so its first item has a number
   pub first_within : (1 ≤ first) × (first ≤ count)
   first_within =
-      let next : n - 1 + 1 ≡ n = omega arith in
-      let there : get_or (codes ws count) (n - 1) 0 ≡ code =
-      code_there ws count (n - 1) (omega (arith, h.most)) ∙ ap (λ (k : ℕ). IS (item_at ws k)) next ∙ sym has
-      in
-      let stands = subst (λ (c : ℕ). In c (codes ws count)) there (at_in (codes ws count) 0 (n - 1) (omega (arith, h.most, codes_counted ws count))) in
-      rw is-first ((order-in (codes ws count) code).1 stands, order_most count (codes ws count) code (omega (arith, codes_counted ws count)))
+      let there : get_or (codes ws count) n 0 ≡ IS (item_at ws (n + 1)) = code_there ws count n more in
+      let stands = subst (λ (c : ℕ). In c (codes ws count)) there (at_in (codes ws count) 0 n (omega (arith, codes_counted ws count))) in
+      rw is-first (
+        (order-in (codes ws count) (IS (item_at ws (n + 1)))).1 stands,
+        order_most count (codes ws count) (IS (item_at ws (n + 1))) (omega (arith, codes_counted ws count)),
+      )
 
   -- whether it differs from that one is told by the test
-  module _ {same : Bool} (test : same ≡ same_length_and_width (item_at ws n) (item_at ws first)) where
-    next : clashes_above (items_in count ws) (n - 1) ≡ only_if (not same) (place n first 0) ++ clashes_above (items_in count ws) n
+  module _ {same : Bool} (test : same ≡ same_length_and_width (item_at ws (n + 1)) (item_at ws first)) where
+    next : code_clashes (items_in count ws) ≡ only_if (not same) (place (n + 1) first 0) ++ clashes_above (items_in count ws) (n + 1)
     unfolding clash_of
     next =
-        let item-n = item_there ws count n least h.most in
+        let item-n = item_there ws count (n + 1) (omega arith) (omega arith) in
         let item-first = item_there ws count first first_within.0 first_within.1 in
-        let first-there : first ≡ first_of_code (items_in count ws) n = is-first ∙ ap (order_in (codes ws count)) (has ∙ ap IS (sym item-n)) in
-        rw (test, ← item-n, ← item-first, first-there) (one_more (items_in count ws) n least (omega (arith, h.most, items_counted ws count)))
+        let first-there : first ≡ first_of_code (items_in count ws) (n + 1) = is-first ∙ ap (order_in (codes ws count)) (ap IS (sym item-n)) in
+        let back : n + 1 - 1 ≡ n = omega arith in
+        sym h.is ∙ ap (clashes_above (items_in count ws)) (sym back)
+        ∙ rw (test, ← item-n, ← item-first, first-there)
+        (one_more (items_in count ws) (n + 1) (omega arith) (omega (arith, items_counted ws count)))
 
-    pub clash_here : not same ≡ true → LowestAbove ws count (n - 1) (Between n first)
+    pub clash_here : same ≡ false → some (place (n + 1) first 0) ≡ lowest (code_clashes (items_in count ws))
     clash_here d =
-        record {
-          most = omega (arith, h.most);
-          is = sym (ap lowest (rw d at next) ∙ lowest_first (place n first 0) (clashes_above (items_in count ws) n) (clash_above (items_in count ws) n));
-        }
+        sym (ap lowest (rw d at next) ∙ lowest_first (place (n + 1) first 0) (clashes_above (items_in count ws) (n + 1)) (clash_above (items_in count ws) (n + 1)))
 
-    pub no_clash_here : not same ≡ false → LowestAbove ws count (n - 1) clash
-    no_clash_here d = record { most = omega (arith, h.most); is = h.is ∙ ap lowest (sym (rw d at next)) }
+    pub no_clash_here : same ≡ true → NoneUpTo ws count (n + 1)
+    no_clash_here d = record { is = sym (rw d at next) }
 
 -- the clashes of an instance are those of its items
 pub clashes_of : (i : Instance) (count : ℕ) (ws : List ℕ) → i.items ≡ chunks 16 count ws → code_clashes (items_in count ws) ≡ code_clashes i

@@ -1,24 +1,14 @@
 -- The ends of ranges: of the head's numbers by their place, and of the lines that end at the last day.
 use mathlib.Core.Path.{◌≡◌, refl}
-use mathlib.Core.List.{List, map}
 use Prim.Native.Nat.{ℕ, ◌<◌}
 use native.Mathlib.Omega.{arith}
-use lib.ListN.{length, get_or}
 use Rattle.meaning.specs.declared.Limits.{Limits}
-use Rattle.meaning.specs.Lists.{between}
 use Rattle.meaning.specs.Model.{Item}
 use Rattle.meaning.specs.Files.{Range, ◌to◌, item_ranges, truck_ranges}
 use Rattle.meaning.specs.Table.{largest_word}
-use Rattle.meaning.proofs.Lists.{every_at, map_at}
+use Rattle.meaning.proofs.Lists.{every_at}
 use Rattle.table.specs.Filled.{Bounded}
 use Rattle.ranges.specs.Ranges.{head_ranges, head_range, item_ranges_up_to, truck_ranges_up_to}
-
--- ---- a number by its place: the ends at the place are those of the range at the place
-pub ends_at : (rs : List Range) (place n : ℕ) → place < length rs
-    → between (get_or (map (λ (r : Range). r.low) rs) place 0) (get_or (map (λ (r : Range). r.high) rs) place 0) n
-    ≡ between (get_or rs place (0 to 0)).low (get_or rs place (0 to 0)).high n
-ends_at rs place n h =
-    rw (map_at (λ (r : Range). r.low) rs place (0 to 0) 0 h, map_at (λ (r : Range). r.high) rs place (0 to 0) 0 h) refl
 
 -- a number of the head is below the largest word
 pub head_below : (m : Limits) → Bounded m → (place : ℕ) → place < 6 → (head_range m place).high < largest_word

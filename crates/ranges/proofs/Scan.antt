@@ -1,32 +1,50 @@
 -- Tests over the words from an index on: what a word decides of them, and how they end.
-use mathlib.Core.Path.{◌≡◌, refl, ap}
-use mathlib.Core.Bool.{Bool, true, false, ◌&&◌, ◌||◌}
-use mathlib.Core.List.{List, [], ◌∷◌}
+use mathlib.Core.Path.{◌≡◌, refl, sym, ap, ◌∙◌}
+use mathlib.Core.Bool.{Bool, true, false, ◌&&◌, ◌||◌, and-true, and_assoc, or_comm}
+use mathlib.Core.List.{List, [], ◌∷◌, ◌++◌}
 use Prim.Native.Nat.{ℕ, ◌+◌, ◌-◌, ◌*◌, ◌≤◌, ◌<◌}
 use native.Mathlib.Numerals.{add-one}
 use native.Mathlib.Omega.{arith}
+use borrow.Author.Tests.{eq-eqb, ne_eqb}
 use lib.Dec.{eqb}
 use lib.ListN.{length, get_or, take, drop, length-drop, drop_of_length-le}
-use lib.Seq.{take_all}
-use Rattle.meaning.specs.Lists.{all, any, between, listed, distinct}
+use lib.Seq.{take_all, drop-cons}
+use Rattle.meaning.specs.Lists.{all, any, between, listed, distinct, order_from}
 use Rattle.meaning.specs.Files.{all_within}
-use Rattle.meaning.proofs.Lists.{drop_next, drop_back}
-use Rattle.ranges.specs.Ranges.{ranges_between, row_numbers}
+use Rattle.meaning.proofs.Lists.{drop_next}
+use Rattle.std.proofs.lemmas.List.{take_more}
+use Rattle.std.specs.Prelude.{fold}
+use Rattle.std.specs.List.{zip}
+use Rattle.ranges.specs.declared.Range.{Range as InCode}
+use Rattle.ranges.specs.Ranges.{ranges_of, row_numbers}
 
--- ---- the words from an index on, and the word before them
-module _ (ws : List ℕ) (i : ℕ) (some : 0 < i) (h : i ≤ length ws) where
-  -- one test for all words
-  pub all_back : (test : ℕ → Bool) {rest : Bool} → rest ≡ all test (drop i ws) → test (get_or ws (i - 1) 0) && rest ≡ all test (drop (i - 1) ws)
-  unfolding all
-  all_back test e = rw (drop_back ws i 0 some h, e) refl
+-- ---- the words up to an index, and the word there
+all_append : (test : ℕ → Bool) (l r : List ℕ) → all test (l ++ r) ≡ (all test l && all test r)
+unfolding all
+all_append test [] r = refl
+all_append test (n ∷ l) r = ap (λ (b : Bool). test n && b) (all_append test l r) ∙ sym (and_assoc (test n) (all test l) (all test r))
 
-  -- each word in its range
-  pub within_back : (lows highs : List ℕ) → i ≤ length lows → i ≤ length highs → {rest : Bool}
-      → rest ≡ all_within (ranges_between (drop i lows) (drop i highs)) (drop i ws)
-      → between (get_or lows (i - 1) 0) (get_or highs (i - 1) 0) (get_or ws (i - 1) 0) && rest
-      ≡ all_within (ranges_between (drop (i - 1) lows) (drop (i - 1) highs)) (drop (i - 1) ws)
-  unfolding all_within ranges_between
-  within_back lows highs l k e = rw (drop_back ws i 0 some h, drop_back lows i 0 some l, drop_back highs i 0 some k, e) refl
+-- a test of the words passed and of the next one
+pub all_next : (test : ℕ → Bool) (ws : List ℕ) (i : ℕ) {inside : Bool} → i < length ws → inside ≡ all test (take i ws)
+    → (inside && test (get_or ws i 0)) ≡ all test (take (i + 1) ws)
+unfolding all
+all_next test ws i h e =
+    let x = get_or ws i 0 in
+    rw (e, take_more ws i 0 h, all_append test (take i ws) (x ∷ []), and-true (test x)) refl
+
+-- ---- words in the ranges of a table
+within_from : (ws : List ℕ) (rs : List InCode) (inside : Bool) → length ws ≤ length rs
+    → fold (λ inside p. inside && between p.1.0 p.1.1 p.0) inside (zip ws rs) ≡ (inside && all_within (ranges_of rs) ws)
+unfolding all_within
+within_from [] [] inside h = sym (and-true inside)
+within_from [] (r ∷ rs) inside h = sym (and-true inside)
+within_from (w ∷ ws) [] inside h = absurd (omega arith)
+within_from (w ∷ ws) (r ∷ rs) inside h =
+    within_from ws rs (inside && between r.0 r.1 w) (omega arith) ∙ and_assoc inside (between r.0 r.1 w) (all_within (ranges_of rs) ws)
+
+pub within_zip : (ws : List ℕ) (rs : List InCode) → length ws ≤ length rs
+    → fold (λ inside p. inside && between p.1.0 p.1.1 p.0) true (zip ws rs) ≡ all_within (ranges_of rs) ws
+within_zip ws rs h = within_from ws rs true h
 
 -- ---- the words from an index on: whether they are distinct is decided by the word at the index, and the part behind it
 module _ (ws : List ℕ) (i : ℕ) (h : i < length ws) where
@@ -43,22 +61,9 @@ module _ (ws : List ℕ) (i : ℕ) (h : i < length ws) where
 
 -- ---- behind the last word
 module _ (ws : List ℕ) (i : ℕ) (h : length ws ≤ i) where
-  pub all_end : (test : ℕ → Bool) → all test (drop i ws) ≡ true
-  unfolding all
-  all_end test = rw (drop_of_length-le ws h)
-
   pub distinct_end : distinct (drop i ws) ≡ true
   unfolding distinct
   distinct_end = rw (drop_of_length-le ws h)
-
-  pub within_end : (lows highs : List ℕ) → all_within (ranges_between (drop i lows) (drop i highs)) (drop i ws) ≡ true
-  unfolding all_within ranges_between
-  within_end lows highs = rw (drop_of_length-le ws h) (none (drop i lows) (drop i highs))
-    where
-      none : (ls hs : List ℕ) → all_within (ranges_between ls hs) [] ≡ true
-      none [] hs = refl
-      none (l ∷ ls) [] = refl
-      none (l ∷ ls) (h ∷ hs) = refl
 
 -- ---- a stack's number looked for from the first row on
 module _ (part : List ℕ) (number : ℕ) where
@@ -67,6 +72,16 @@ module _ (part : List ℕ) (number : ℕ) where
   repeated_before = refl
 
   pub repeated_next : (k : ℕ) (repeated : Bool) → repeated ≡ listed number (row_numbers k part)
-      → eqb number (get_or part (8 * k) 0) || repeated ≡ listed number (row_numbers (k + 1) part)
+      → repeated || eqb number (get_or part (8 * k) 0) ≡ listed number (row_numbers (k + 1) part)
   unfolding any row_numbers
-  repeated_next k repeated e = rw add-one (ap (λ b. eqb number (get_or part (8 * k) 0) || b) e)
+  repeated_next k repeated e = rw (add-one, or_comm repeated (eqb number (get_or part (8 * k) 0))) (ap (λ b. eqb number (get_or part (8 * k) 0) || b) e)
+
+-- ---- the place of a number in a list, from 1, with i numbers passed: the next is the one, or the next is another
+module _ (n : ℕ) (l : List ℕ) (i : ℕ) (h : i < length l) where
+  pub order_found : get_or l i 0 ≡ n → order_from (i + 1) n (drop i l) ≡ i + 1
+  unfolding order_from
+  order_found e = rw (drop-cons l i 0 h, eq-eqb n (get_or l i 0) (sym e)) refl
+
+  pub order_passed : (get_or l i 0 ≡ n → ⊥) → order_from (i + 1) n (drop i l) ≡ order_from (i + 1 + 1) n (drop (i + 1) l)
+  unfolding order_from
+  order_passed e = rw (drop-cons l i 0 h, ne_eqb n (get_or l i 0) (λ q. e (sym q)), add-one (i + 1), add-one i) refl

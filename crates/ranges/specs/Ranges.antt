@@ -1,14 +1,13 @@
 -- Ranges as the code has them.
-use Rattle.std.specs.Prelude.{List, [], ◌∷◌, ℕ, zero, suc, ◌*◌, get_or, set}
+use Rattle.std.specs.Prelude.{List, [], ◌∷◌, map, ℕ, zero, suc, ◌*◌, get_or, set}
 use Rattle.meaning.specs.declared.Limits.{Limits}
 use Rattle.meaning.specs.Files.{Range, ◌to◌, item_ranges, truck_ranges}
 use Rattle.meaning.specs.Model.{IDE}
+use Rattle.ranges.specs.declared.Range.{Range as InCode}
 
--- the ranges of two lists of ends
-unfoldable pub ranges_between : List ℕ → List ℕ → List Range
-ranges_between [] highs = []
-ranges_between (l ∷ lows) [] = []
-ranges_between (l ∷ lows) (h ∷ highs) = l to h ∷ ranges_between lows highs
+-- the ranges of a table of the code, each with its two ends
+abbrev pub ranges_of : List InCode → List Range
+ranges_of rs = map (λ r. r.0 to r.1) rs
 
 -- "0..5: αT, αI, αE, items, trucks, stacks": the ranges of these numbers
 abbrev pub head_ranges : Limits → List Range

@@ -31,18 +31,16 @@ use Rattle.table.proofs.Fill.{words_filled}
 use Rattle.ranges.specs.declared.Clash.{Clash}
 use Rattle.ranges.specs.Clashes.{items_in, clash_place}
 use Rattle.ranges.proofs.Clashes.{clashes_of}
-use Rattle.lines.specs.declared.Progress.{Progress}
-use Rattle.lines.specs.declared.Progress.TheVariants.{Next, WrongForm, OutOfRange}
+use Rattle.std.specs.Prelude.{Option as Perhaps, Ok, Err}
+use Rattle.lines.specs.declared.LineRefused.TheVariants.{WrongForm, OutOfRange}
 use Rattle.lines.specs.declared.Cursor.{Cursor}
-use Rattle.lines.specs.Progress.{at_start, reached, ReadInto}
+use Rattle.lines.specs.declared.LineValue.{LineValue}
+use Rattle.lines.specs.Progress.{Progress, at_start, reached, LineResult, progress_of, ReadInto}
 use Rattle.lines.proofs.Follow.{onward_twice}
 use Rattle.instance.specs.Words.{instance_file, instance_words}
 use Rattle.plan.specs.declared.Counts.{Counts}
-use Rattle.plan.specs.declared.PlanAnswer.{PlanAnswer}
 use Rattle.plan.specs.Words.{plan_words, plan_file, PlanPromise}
-use Rattle.reading.specs.declared.FilesRead.{FilesRead}
-use Rattle.reading.specs.declared.FilesRead.TheVariants.{Refused, Readable}
-use Rattle.reading.specs.Answered.{refused_with, FillPromise, HoldsInstance}
+use Rattle.reading.specs.Answered.{FilesRead, refused_with, FillPromise, HoldsInstance}
 
 -- ---- the words of a model are those of its instance and those of its plan
 module _ (m : Limits) (i : Instance) where
@@ -119,11 +117,11 @@ whole_finds (out_of_range k) a n rest e = let z : ◌≡◌ {A = ℕ} 0 1 = cc i
 -- ---- what is answered
 module _ (m : Limits) (says : Reading) (t : List ℕ) where
   -- a refusal says nothing of the words
-  refused_filled : (r : FilesRead) (a : Answer) → says ≡ refused a → r ≡ Refused a → FillPromise m says r t
+  refused_filled : (r : FilesRead) (a : Answer) → says ≡ refused a → r ≡ Err a → FillPromise m says r t
   refused_filled r a e k = record { answered = rw e k; holds = λ i p f. absurd (let z : ◌≡◌ {A = ℕ} 0 1 = cc in omega arith) }
 
   -- readable files say all of them
-  readable_filled : (i : Instance) (p : List Stack) → says ≡ readable i p → t ≡ words m i p → FillPromise m says Readable t
+  readable_filled : (i : Instance) (p : List Stack) → says ≡ readable i p → t ≡ words m i p → FillPromise m says (Ok tt) t
   readable_filled i p e k = record { answered = rw e; holds = λ j q f. k ∙ ap₂ (words m) (cc) (cc) }
 
   -- a refusal at the line behind n lines
@@ -140,20 +138,20 @@ module _ (m : Limits) (file : List ℕ) (p : Progress) (part : List ℕ) (h : Re
   unfolding whole_file
   instance_said q e = sym h.says ∙ ap (reached file h.value) e
 
-  pub instance_form : (plan t : List ℕ) (r : FilesRead) (n : ℕ) → p ≡ WrongForm n → r ≡ refused_with 4 (n + 1) 0 → FillPromise m (both plan) r t
+  pub instance_form : (plan t : List ℕ) (r : FilesRead) (n : ℕ) → p ≡ Err (WrongForm n) → r ≡ refused_with 4 (n + 1) 0 → FillPromise m (both plan) r t
   unfolding after_instance
-  instance_form plan t r n e k = line_refused m (both plan) t r 4 n (ap (after_instance m plan) (instance_said (WrongForm n) e)) k
+  instance_form plan t r n e k = line_refused m (both plan) t r 4 n (ap (after_instance m plan) (instance_said (Err (WrongForm n)) e)) k
 
-  pub instance_range : (plan t : List ℕ) (r : FilesRead) (n : ℕ) → p ≡ OutOfRange n → r ≡ refused_with 5 (n + 1) 0 → FillPromise m (both plan) r t
+  pub instance_range : (plan t : List ℕ) (r : FilesRead) (n : ℕ) → p ≡ Err (OutOfRange n) → r ≡ refused_with 5 (n + 1) 0 → FillPromise m (both plan) r t
   unfolding after_instance
-  instance_range plan t r n e k = line_refused m (both plan) t r 5 n (ap (after_instance m plan) (instance_said (OutOfRange n) e)) k
+  instance_range plan t r n e k = line_refused m (both plan) t r 5 n (ap (after_instance m plan) (instance_said (Err (OutOfRange n)) e)) k
 
   -- where it is read to its end: the words are ready for the plan, and what the plan gives is what both files give
-  module _ (c : Cursor) (e : p ≡ Next c) where
+  module _ (c : Cursor) (e : p ≡ Ok c) where
     in_range_lem : InstanceMeets m h.value
     unfolding whole_file
     in_range_lem =
-        (instance_off m file h.value (whole_finds (instance_lines m 1 file) h.value (suc c.line) (drop c.at file) (sym (instance_said (Next c) e)))).0
+        (instance_off m file h.value (whole_finds (instance_lines m 1 file) h.value (suc c.line) (drop c.at file) (sym (instance_said (Ok c) e)))).0
 
     module _ (zeros : List ℕ) (end : ℕ) (z : zeros ≡ replicate (named m) 0) (f : end ≡ stacks_at m) where
       placed : part ++ drop (end - 0) zeros ≡ words m h.value []
@@ -170,11 +168,11 @@ module _ (m : Limits) (file : List ℕ) (p : Progress) (part : List ℕ) (h : Re
       unfolding after_instance
       instance_onward plan r t later =
           let same : alone ≡ h.value = ap (instance_in m) placed ∙ instance_alone m h.value in_range_lem in
-          rw (instance_said (Next c) e) (rw same at later)
+          rw (instance_said (Ok c) e) (rw same at later)
 
 -- ---- by the lowest code clash
 -- of the items whose words are lent
-pub clash_in : (m : Limits) (t : List ℕ) (clash : Clash) (count : ℕ) → count ≡ length (instance_in m t).items
+pub clash_in : (m : Limits) (t : List ℕ) (clash : Perhaps Clash) (count : ℕ) → count ≡ length (instance_in m t).items
     → clash_place clash ≡ lowest (code_clashes (items_in count (take (length t - 16) (drop 16 t)))) → clash_place clash ≡ lowest (code_clashes (instance_in m t))
 unfolding instance_in
 clash_in m t clash count e is =
@@ -192,25 +190,25 @@ module _ (m : Limits) (i : Instance) (plan : List ℕ) (o : Option Place) (t : L
   no_clash_lem r e h = rw (← e) h
 
 -- ---- by how far the plan is read
-module _ (m : Limits) (i : Instance) (file : List ℕ) (counts : Counts) (r : PlanAnswer) (part : List ℕ) (a : counts.items ≡ length i.items)
+module _ (m : Limits) (i : Instance) (file : List ℕ) (counts : Counts) (r : LineResult ℕ) (part : List ℕ) (a : counts.items ≡ length i.items)
     (b : counts.trucks ≡ length i.trucks) (h : PlanPromise m counts file r part) where
   abbrev on_plan : Reading
   on_plan = after_plan i (whole_file (plan_lines m i) file)
 
-  plan_said : (q : Progress) → r.progress ≡ q → whole_file (plan_lines m i) file ≡ reached file h.into.value q
-  plan_said q e = sym (h.into.says ∙ rw (a, b) (plan_file_lem m i file)) ∙ ap (reached file h.into.value) e
+  plan_said : (q : LineResult ℕ) → r ≡ q → whole_file (plan_lines m i) file ≡ reached file h.into.value (progress_of q)
+  plan_said q e = sym (h.into.says ∙ rw (a, b) (plan_file_lem m i file)) ∙ ap (λ (x : LineResult ℕ). reached file h.into.value (progress_of x)) e
 
-  pub plan_form : (t : List ℕ) (answer : FilesRead) (n : ℕ) → r.progress ≡ WrongForm n → answer ≡ refused_with 7 (n + 1) 0 → FillPromise m on_plan answer t
+  pub plan_form : (t : List ℕ) (answer : FilesRead) (n : ℕ) → r ≡ Err (WrongForm n) → answer ≡ refused_with 7 (n + 1) 0 → FillPromise m on_plan answer t
   unfolding after_plan
-  plan_form t answer n e k = line_refused m on_plan t answer 7 n (ap (after_plan i) (plan_said (WrongForm n) e)) k
+  plan_form t answer n e k = line_refused m on_plan t answer 7 n (ap (after_plan i) (plan_said (Err (WrongForm n)) e)) k
 
-  pub plan_range : (t : List ℕ) (answer : FilesRead) (n : ℕ) → r.progress ≡ OutOfRange n → answer ≡ refused_with 8 (n + 1) 0 → FillPromise m on_plan answer t
+  pub plan_range : (t : List ℕ) (answer : FilesRead) (n : ℕ) → r ≡ Err (OutOfRange n) → answer ≡ refused_with 8 (n + 1) 0 → FillPromise m on_plan answer t
   unfolding after_plan
-  plan_range t answer n e k = line_refused m on_plan t answer 8 n (ap (after_plan i) (plan_said (OutOfRange n) e)) k
+  plan_range t answer n e k = line_refused m on_plan t answer 8 n (ap (after_plan i) (plan_said (Err (OutOfRange n)) e)) k
 
-  pub plan_readable : (t : List ℕ) (from : ℕ) (c : Cursor) → InstanceMeets m i → t ≡ words m i [] → from ≡ stacks_at m → r.progress ≡ Next c
-      → FillPromise m on_plan Readable (set (put_mid from (length t - from) t part) 5 r.stacks)
+  pub plan_readable : (t : List ℕ) (from : ℕ) (f : LineValue ℕ) → InstanceMeets m i → t ≡ words m i [] → from ≡ stacks_at m → r ≡ Ok f
+      → FillPromise m on_plan (Ok tt) (set (put_mid from (length t - from) t part) 5 f.value)
   unfolding after_plan
-  plan_readable t from c range w f e =
-      readable_filled m on_plan _ i h.into.value (ap (after_plan i) (plan_said (Next c) e))
-      (rw (rw e at h.into.holds tt, rw e at h.stacks tt) (plan_placed m i range t from h.into.value w f))
+  plan_readable t from found_stacks range w f e =
+      readable_filled m on_plan _ i h.into.value (ap (after_plan i) (plan_said (Ok found_stacks) e))
+      (rw (rw e at h.into.holds tt, rw e at h.stacks) (plan_placed m i range t from h.into.value w f))

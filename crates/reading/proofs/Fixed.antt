@@ -3,8 +3,7 @@ use mathlib.Core.Path.{◌≡◌, sym, ◌∙◌}
 use mathlib.Core.List.{List}
 use Prim.Native.Nat.{ℕ}
 use Rattle.meaning.specs.declared.Limits.{Limits}
-use Rattle.reading.specs.declared.FilesRead.{FilesRead}
-use Rattle.reading.specs.Answered.{ReadPromise}
+use Rattle.reading.specs.Answered.{FilesRead, ReadPromise}
 
 pub nothing_free : (m : Limits) (instance plan table₀ table table' : List ℕ) (r r' : FilesRead)
     → ReadPromise m instance plan table₀ table r → ReadPromise m instance plan table₀ table' r' → (r ≡ r') × (table ≡ table')

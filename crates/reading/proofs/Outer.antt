@@ -1,6 +1,6 @@
 -- What the reading call promises, from what filling the named words promises and from the lengths of the files and of the table.
 use mathlib.Core.Path.{◌≡◌, refl, sym, ap, ap₂, ◌∙◌}
-use mathlib.Core.Bool.{Bool, true, false, not}
+use mathlib.Core.Bool.{true, false}
 use mathlib.Core.List.{List, ◌++◌}
 use Prim.Native.Nat.{ℕ, ◌≤◌, ◌<◌, ◌-◌}
 use native.Mathlib.Nat.{sub-zero}
@@ -19,23 +19,22 @@ use Rattle.meaning.proofs.Ranges.{read_meets, read_fits}
 use Rattle.meaning.proofs.Decode.{instance_decoded, stacks_decoded}
 use Rattle.table.specs.Filled.{Bounded, Filled}
 use Rattle.table.proofs.Fill.{table_filled}
-use Rattle.reading.specs.declared.FilesRead.{FilesRead}
-use Rattle.reading.specs.declared.FilesRead.TheVariants as Read
-use Rattle.reading.specs.Answered.{refused_with, read_as, readable_by, FillPromise, NamedPromise, expected, ReadPromise}
+use Rattle.std.specs.Prelude.{Ok, is_err}
+use Rattle.reading.specs.Answered.{FilesRead, refused_with, read_as, FillPromise, NamedPromise, expected, ReadPromise}
 
 -- ---- the named words, after a filling whose answer is told apart by a test
-module _ (m : Limits) (r : FilesRead) (test : Bool) (e : test ≡ readable_by r) where
+module _ (m : Limits) (r : FilesRead) where
   -- they stay where nothing is refused
-  kept : (says : Reading) (t : List ℕ) → FillPromise m says r t → not test ≡ false → NamedPromise m says r t
+  kept : (says : Reading) (t : List ℕ) → FillPromise m says r t → is_err r ≡ false → NamedPromise m says r t
   unfolding named_after
-  kept (refused a) t h k = absurd (true≢false (sym (ap not (e ∙ ap readable_by h.answered)) ∙ k))
+  kept (refused a) t h k = absurd (true≢false (ap is_err (sym h.answered) ∙ k))
   kept (readable i p) t h k = record { answered = h.answered; words = h.holds i p refl }
 
   -- and are cleared after a refusal
-  cleared : (says : Reading) (t : List ℕ) → r ≡ read_as says → not test ≡ true → t ≡ replicate (named m) 0 → NamedPromise m says r t
+  cleared : (says : Reading) (t : List ℕ) → r ≡ read_as says → is_err r ≡ true → t ≡ replicate (named m) 0 → NamedPromise m says r t
   unfolding named_after
   cleared (refused a) t h k z = record { answered = h; words = z }
-  cleared (readable i p) t h k z = absurd (true≢false (sym k ∙ ap not (e ∙ ap readable_by h)))
+  cleared (readable i p) t h k z = absurd (true≢false (sym k ∙ ap is_err h))
 
 -- ---- the lengths of the files
 module _ (m : Limits) (instance plan : List ℕ) where
@@ -44,27 +43,26 @@ module _ (m : Limits) (instance plan : List ℕ) where
 
   pub instance_overlong : (r : FilesRead) (t : List ℕ) → m.bytes < length instance → r ≡ refused_with 2 0 0 → t ≡ replicate (named m) 0 → NamedPromise m says r t
   unfolding read_files
-  instance_overlong r t h e z = cleared m r false (rw e) says t (rw (lt-ltb m.bytes (length instance) h) e) refl z
+  instance_overlong r t h e z = cleared m r says t (rw (lt-ltb m.bytes (length instance) h) e) (rw e) z
 
   -- where the instance is short enough
   module _ (h : length instance ≤ m.bytes) where
     pub plan_overlong : (r : FilesRead) (t : List ℕ) → m.bytes < length plan → r ≡ refused_with 3 0 0 → t ≡ replicate (named m) 0 → NamedPromise m says r t
     unfolding read_files
     plan_overlong r t k e z =
-        cleared m r false (rw e) says t (rw (le-ltb m.bytes (length instance) h, lt-ltb m.bytes (length plan) k) e) refl z
+        cleared m r says t (rw (le-ltb m.bytes (length instance) h, lt-ltb m.bytes (length plan) k) e) (rw e) z
 
     both_short : length plan ≤ m.bytes → says ≡ after_instance m plan (whole_file (instance_lines m) instance)
     unfolding read_files
     both_short k = rw (le-ltb m.bytes (length instance) h, le-ltb m.bytes (length plan) k)
 
     -- and the plan too
-    module _ (k : length plan ≤ m.bytes) (r : FilesRead) (t : List ℕ) (filled : FillPromise m (after_instance m plan (whole_file (instance_lines m) instance)) r t)
-        (test : Bool) (e : test ≡ readable_by r) where
-      pub words_kept : not test ≡ false → NamedPromise m says r t
-      words_kept n = kept m r test e says t (rw (both_short k) filled) n
+    module _ (k : length plan ≤ m.bytes) (r : FilesRead) (t : List ℕ) (filled : FillPromise m (after_instance m plan (whole_file (instance_lines m) instance)) r t) where
+      pub words_kept : is_err r ≡ false → NamedPromise m says r t
+      words_kept n = kept m r says t (rw (both_short k) filled) n
 
-      pub words_cleared : (zeros : List ℕ) → not test ≡ true → zeros ≡ replicate (named m) 0 → NamedPromise m says r zeros
-      words_cleared zeros n z = cleared m r test e says zeros (rw (both_short k) filled.answered) n z
+      pub words_cleared : (zeros : List ℕ) → is_err r ≡ true → zeros ≡ replicate (named m) 0 → NamedPromise m says r zeros
+      words_cleared zeros n z = cleared m r says zeros (rw (both_short k) filled.answered) n z
 
 -- ---- the length of the table
 module _ (m : Limits) (instance plan table : List ℕ) where
@@ -73,14 +71,14 @@ module _ (m : Limits) (instance plan table : List ℕ) where
   unfolding expected table_after
   short_read r h e =
       let short = lt-ltb (length table) (named m) h in
-      let never : r ≡ Read.Readable → ⊥ = λ k. true≢false (ap readable_by (sym k ∙ e)) in
+      let never : r ≡ Ok tt → ⊥ = λ k. true≢false (ap is_err (sym e ∙ k)) in
       record { answered = rw short e; words = rw short; model = λ k. absurd (never k); filled = λ k. absurd (never k) }
 
   -- with any words beyond them, the named words of readable files hold what the files say
-  held : Bounded m → (says : Reading) → read_files m instance plan ≡ says → read_as says ≡ Read.Readable → (beyond : List ℕ)
+  held : Bounded m → (says : Reading) → read_files m instance plan ≡ says → read_as says ≡ Ok tt → (beyond : List ℕ)
       → (says ≡ readable (instance_in m (named_after m says ++ beyond)) (stacks_in m (named_after m says ++ beyond))) × Filled m (named_after m says ++ beyond)
   unfolding named_after
-  held b (refused a) e k beyond = absurd (true≢false (sym (ap readable_by k)))
+  held b (refused a) e k beyond = absurd (true≢false (ap is_err k))
   held b (readable i p) e k beyond =
       let r : Readable m instance plan = record { says = i; stacks = p; read = e } in
       let fits = read_fits m instance plan r in
@@ -94,7 +92,7 @@ module _ (m : Limits) (instance plan table : List ℕ) where
       let e = le-ltb (length table) (named m) (omega arith) in
       let says = read_files m instance plan in
       let beyond : drop (end - 0) table ≡ drop (named m) table = rw (sub-zero end, n) in
-      let quiet : r ≡ Read.Readable → read_as says ≡ Read.Readable = λ k. sym h.answered ∙ k in
+      let quiet : r ≡ Ok tt → read_as says ≡ Ok tt = λ k. sym h.answered ∙ k in
       record {
         answered = rw e h.answered;
         words = rw (e, h.words, beyond);

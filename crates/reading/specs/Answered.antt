@@ -1,6 +1,7 @@
 -- What the answers of this crate say, by document 01's numbers and places, and what the reading call promises.
-use Rattle.std.specs.Prelude.{◌≡◌, Bool, true, false, cond, List, [], ℕ, ltb, length}
+use Rattle.std.specs.Prelude.{◌≡◌, cond, List, [], ℕ, ltb, length, Result, Ok, Err}
 use Rattle.meaning.specs.declared.Limits.{Limits}
+use Rattle.meaning.specs.declared.Answer.{Answer}
 use Rattle.meaning.specs.Limits.{named}
 use Rattle.meaning.specs.Model.{Instance, Stack}
 use Rattle.meaning.specs.Table.{words, instance_in, stacks_in}
@@ -8,23 +9,33 @@ use Rattle.meaning.specs.Places.{place}
 use Rattle.meaning.specs.Verdict.{refusal}
 use Rattle.meaning.specs.Check.{Reading, refused, readable, read_files, named_after, table_after}
 use Rattle.table.specs.Filled.{Filled}
-use Rattle.reading.specs.declared.FilesRead.{FilesRead}
-use Rattle.reading.specs.declared.FilesRead.TheVariants.{Refused, Readable}
+use Rattle.reading.specs.declared.Refusal.{Refusal}
+use Rattle.reading.specs.declared.Refusal.TheVariants.{ShortTable, InstanceOverlong, PlanOverlong, InstanceForm, InstanceRange, CodeClash, PlanForm, PlanRange}
 
 -- ---- the cases of an answer
+-- document 01's number of a refusal
+abbrev pub number_of : Refusal → ℕ
+number_of ShortTable = 1
+number_of InstanceOverlong = 2
+number_of PlanOverlong = 3
+number_of InstanceForm = 4
+number_of InstanceRange = 5
+number_of CodeClash = 6
+number_of PlanForm = 7
+number_of PlanRange = 8
+
+-- refused with the answer, or readable, and then the rules decide
+abbrev pub FilesRead : Type 0
+FilesRead = Result (Unit {0}) Answer
+
 -- a refusal by document 01's number and its places
 abbrev pub refused_with : ℕ → ℕ → ℕ → FilesRead
-refused_with number first second = Refused (refusal number (place first second 0))
+refused_with number first second = Err (refusal number (place first second 0))
 
 -- the answer for what the meaning reads
 abbrev pub read_as : Reading → FilesRead
-read_as (refused a) = Refused a
-read_as (readable i p) = Readable
-
--- nothing is refused
-abbrev pub readable_by : FilesRead → Bool
-readable_by (Refused a) = false
-readable_by Readable = true
+read_as (refused a) = Err a
+read_as (readable i p) = Ok tt
 
 -- ---- what filling the named words promises: the meaning's refusal; or the words of what was read
 pub record FillPromise (m : Limits) (says : Reading) (r : FilesRead) (named : List ℕ) : Type 0 where
@@ -51,5 +62,5 @@ expected m tableLength instance plan = cond (ltb tableLength (named m)) (refused
 pub record ReadPromise (m : Limits) (instance plan table₀ table : List ℕ) (r : FilesRead) : Type 0 where
   pub answered : r ≡ expected m (length table₀) instance plan
   pub words : table ≡ table_after m table₀ instance plan
-  pub model : r ≡ Readable → read_files m instance plan ≡ readable (instance_in m table) (stacks_in m table)
-  pub filled : r ≡ Readable → Filled m table
+  pub model : r ≡ Ok tt → read_files m instance plan ≡ readable (instance_in m table) (stacks_in m table)
+  pub filled : r ≡ Ok tt → Filled m table

@@ -1,12 +1,14 @@
 -- The loading rules by rank are those of the verdict table, and the first broken one is found by asking them one after another.
 use mathlib.Core.Path.{◌≡◌, refl, sym, ap, ◌∙◌}
-use mathlib.Core.Option.{Option, none, some}
+use mathlib.Core.Option as listed
+use mathlib.Core.Option.{none, some}
 use mathlib.Core.List.{List, [], ◌∷◌, map}
 use Prim.Native.Nat.{ℕ, zero, suc, ◌+◌, ◌≤◌, ◌<◌}
 use native.Mathlib.Decide.{dec_le}
 use native.Mathlib.Omega.{arith}
 use lib.ListN.{length, get_or, drop}
 use lib.Seq.{drop-cons}
+use Rattle.std.specs.Prelude.{Option, Some, None}
 use Rattle.meaning.specs.declared.Place.{Place}
 use Rattle.meaning.specs.declared.Answer.{Answer}
 use Rattle.meaning.specs.Places.{lowest}
@@ -17,18 +19,18 @@ use Rattle.meaning.specs.Rules.{rules, not_once_rule, loading_rules, item_rules,
 use Rattle.meaning.specs.Verdict.{refusal, acceptance, broken_or, first_broken, verdict_on, cost}
 use Rattle.meaning.proofs.Lists.{map_at}
 use Rattle.search.specs.Lowest.{found_of, lowest_in}
-use Rattle.search.specs.declared.Found.{Found}
-use Rattle.search.specs.declared.Found.TheVariants.{At, Nothing}
 use Rattle.search.proofs.Lowest.{none_listed}
-use Rattle.rules.specs.LoadingRules.{rule_places, verdicts, rule_count, rule_of, rule_at, KeptBelow}
+use Rattle.rules.specs.declared.Rule.TheVariants.{OfTrucks}
+use Rattle.rules.specs.declared.TruckRule.TheVariants.{Rear}
+use Rattle.rules.specs.LoadingRules.{rule_places, verdicts, rule_count, ordered, rule_at, verdict_of, KeptBelow}
 
 -- ---- one rule of the table
 module _ (r : meant.Rule) (rs : List meant.Rule) (i : Instance) (p : List Stack) (kept : Answer) where
-  rule_broken : (q : Place) → At q ≡ lowest_in (r.places i p) → refusal r.verdict q ≡ first_broken (r ∷ rs) i p kept
+  rule_broken : (q : Place) → Some q ≡ lowest_in (r.places i p) → refusal r.verdict q ≡ first_broken (r ∷ rs) i p kept
   unfolding first_broken lowest_in broken_or
   rule_broken q e = rw (back (lowest (r.places i p)) e) refl
     where
-      back : (o : Option Place) → At q ≡ found_of o → o ≡ some q
+      back : (o : listed.Option Place) → Some q ≡ found_of o → o ≡ some q
       back none e = let z : ◌≡◌ {A = ℕ} 0 1 = cc in absurd (omega arith)
       back (some q) e = cc
 
@@ -36,12 +38,17 @@ module _ (r : meant.Rule) (rs : List meant.Rule) (i : Instance) (p : List Stack)
   unfolding first_broken broken_or lowest
   rule_kept e = rw e refl
 
+-- ---- the code's rules have their verdicts
+pub verdict_named : (rank : ℕ) → rank < rule_count → verdict_of (rule_at rank) ≡ get_or verdicts rank 0
+unfolding rule_at
+verdict_named rank inside = sym (map_at verdict_of ordered rank (OfTrucks Rear) 0 inside)
+
 -- ---- the table's loading rules, and the code's names for them
 verdicts_named : map (λ (r : meant.Rule). r.verdict) loading_rules ≡ verdicts
 unfolding loading_rules item_rules stack_rules placement_rules weight_rules
 verdicts_named = refl
 
-places_named : map (λ (r : meant.Rule). r.places) loading_rules ≡ map (λ verdict. rule_places (rule_of verdict)) verdicts
+places_named : map (λ (r : meant.Rule). r.places) loading_rules ≡ map rule_places ordered
 unfolding loading_rules item_rules stack_rules placement_rules weight_rules
 places_named = refl
 
@@ -69,7 +76,7 @@ module _ (rank : ℕ) (inside : rank < rule_count) where
       let none : Instance → List Stack → List Place = λ i p. [] in
       sym (map_at (λ (r : meant.Rule). r.places) loading_rules rank no_rule none within)
       ∙ ap (λ (l : List (Instance → List Stack → List Place)). get_or l rank none) places_named
-      ∙ map_at (λ verdict. rule_places (rule_of verdict)) verdicts rank 0 none inside
+      ∙ map_at rule_places ordered rank (OfTrucks Rear) none inside
 
 -- ---- the rules asked one after another
 module _ {i : Instance} {p : List Stack} where
@@ -97,12 +104,12 @@ module _ {i : Instance} {p : List Stack} where
         ∙ from_rank rank (omega arith) record { each = λ k below. h.each k (omega arith) }
 
     -- the first rule that is broken
-    pub broken_at_rank : (rank : ℕ) (q : Place) → rank < rule_count → KeptBelow i p rank → At q ≡ lowest_in (rule_places (rule_at rank) i p)
+    pub broken_at_rank : (rank : ℕ) (q : Place) → rank < rule_count → KeptBelow i p rank → Some q ≡ lowest_in (rule_places (rule_at rank) i p)
         → refusal (get_or verdicts rank 0) q ≡ first_broken loading_rules i p kept
     broken_at_rank rank q inside h e =
         let later = drop (suc rank) loading_rules in
         let split : drop rank loading_rules ≡ row rank inside ∷ later = drop-cons loading_rules rank no_rule (within rank inside) in
-        let found : At q ≡ lowest_in ((row rank inside).places i p) = rw (row_places rank inside) e in
+        let found : Some q ≡ lowest_in ((row rank inside).places i p) = rw (row_places rank inside) e in
         ap (λ verdict. refusal verdict q) (sym (row_verdict rank inside)) ∙ rule_broken (row rank inside) later i p kept q found
         ∙ ap (λ (rs : List meant.Rule). first_broken rs i p kept) (sym split) ∙ from_rank rank (omega arith) h
 
@@ -116,10 +123,10 @@ module _ (i : Instance) (p : List Stack) where
   abbrev accepted : Answer
   accepted = acceptance (cost i p) (length (used_trucks p))
 
-  pub once_broken : {found : Found} (q : Place) → found ≡ lowest_in (not_once i p) → found ≡ At q → refusal 9 q ≡ verdict_on i p
+  pub once_broken : {found : Option Place} (q : Place) → found ≡ lowest_in (not_once i p) → found ≡ Some q → refusal 9 q ≡ verdict_on i p
   unfolding verdict_on rules
   once_broken q e f = rule_broken not_once_rule loading_rules i p accepted q (sym f ∙ e)
 
-  pub once_kept : {found : Found} → found ≡ lowest_in (not_once i p) → found ≡ Nothing → first_broken loading_rules i p accepted ≡ verdict_on i p
+  pub once_kept : {found : Option Place} → found ≡ lowest_in (not_once i p) → found ≡ None → first_broken loading_rules i p accepted ≡ verdict_on i p
   unfolding verdict_on rules
   once_kept e f = sym (rule_kept not_once_rule loading_rules i p accepted (none_listed (not_once i p) (sym f ∙ e)))

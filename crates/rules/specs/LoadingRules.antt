@@ -1,5 +1,5 @@
 -- The loading rules, all but 9, by the names that the code has for them: where each is broken, and their order.
-use Rattle.std.specs.Prelude.{◌≡◌, Bool, true, false, cond, List, [], ◌∷◌, map, ℕ, ◌<◌, eqb, length, get_or}
+use Rattle.std.specs.Prelude.{◌≡◌, Bool, true, false, List, [], ◌∷◌, map, ℕ, ◌<◌, length, get_or}
 use Rattle.meaning.specs.declared.Place.{Place}
 use Rattle.meaning.specs.Model.{Instance, Stack, Item}
 use Rattle.meaning.specs.Measures.{sm}
@@ -120,18 +120,47 @@ verdicts = map (λ (r : Named). r.verdict) named
 abbrev pub rule_count : ℕ
 rule_count = length named
 
--- the first of some rules that has this verdict; where none has, Rear stands in
-abbrev pub rule_among : List Named → ℕ → Rule
-rule_among [] verdict = OfTrucks Rear
-rule_among (r ∷ rs) verdict = cond (eqb verdict r.verdict) r.rule (rule_among rs verdict)
+-- the rules in this order
+abbrev pub ordered : List Rule
+ordered = map (λ (r : Named). r.rule) named
 
--- the rule of a verdict
-abbrev pub rule_of : ℕ → Rule
-rule_of verdict = rule_among named verdict
-
--- the rule of a rank
+-- the rule of a rank; behind the last rank, where there is none, Rear stands in
 unfoldable pub rule_at : ℕ → Rule
-rule_at rank = rule_of (get_or verdicts rank 0)
+rule_at rank = get_or ordered rank (OfTrucks Rear)
+
+-- the verdict of a rule
+abbrev pub item_verdict : ItemRule → ℕ
+item_verdict Plant = 10
+item_verdict Product = 11
+item_verdict Supplier = 12
+item_verdict Day = 13
+item_verdict Dock = 14
+item_verdict Mixed = 15
+item_verdict Turned = 18
+
+abbrev pub own_verdict : OwnRule → ℕ
+own_verdict Docks = 16
+own_verdict TopHeavy = 19
+own_verdict TooMany = 20
+own_verdict Dense = 21
+own_verdict Outside = 22
+
+abbrev pub pair_verdict : PairRule → ℕ
+pair_verdict SecondPair = 17
+pair_verdict Overlap = 23
+pair_verdict Order = 25
+
+abbrev pub truck_verdict : TruckRule → ℕ
+truck_verdict Unbraced = 24
+truck_verdict Overload = 26
+truck_verdict Middle = 27
+truck_verdict Rear = 28
+
+abbrev pub verdict_of : Rule → ℕ
+verdict_of (OfStacks (EachItem rule)) = item_verdict rule
+verdict_of (OfStacks (Own rule)) = own_verdict rule
+verdict_of (OfPairs rule) = pair_verdict rule
+verdict_of (OfTrucks rule) = truck_verdict rule
 
 -- the rules of the ranks below this one are kept
 pub record KeptBelow (i : Instance) (p : List Stack) (rank : ℕ) : Type 0 where

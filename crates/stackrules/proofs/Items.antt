@@ -7,6 +7,7 @@ use Prim.Native.Nat.{ℕ, ◌<◌}
 use native.Mathlib.Omega.{arith}
 use lib.Dec.{leb}
 use lib.ListN.{length}
+use Rattle.std.specs.Prelude.{Option, Some}
 use Rattle.meaning.specs.declared.Place.{Place}
 use Rattle.meaning.specs.Lists.{listed, order_in}
 use Rattle.meaning.specs.Model.{Instance, Stack, item, truck_numbered, truck, IG, IU, IK}
@@ -17,8 +18,6 @@ use Rattle.meaning.proofs.Lists.{in_flat_map, listed_reads}
 use Rattle.meaning.proofs.Permute.{Same}
 use Rattle.meaning.proofs.Orders.{order-in}
 use Rattle.search.specs.Lowest.{lowest_in}
-use Rattle.search.specs.declared.Found.{Found}
-use Rattle.search.specs.declared.Found.TheVariants.{At}
 use Rattle.search.proofs.Lowest.{lowest_none, lowest_members}
 use Rattle.rules.specs.declared.Rule.{Rule}
 use Rattle.rules.specs.declared.Rule.TheVariants.{OfStacks, OfPairs, OfTrucks}
@@ -54,7 +53,7 @@ module _ (i : Instance) (s : Stack) {load : List ℕ} (e : load ≡ s.load) (som
   load_places (OfTrucks rule) on = absurd (true≢false (sym on))
 
 -- a place found is that of a rule on stacks
-pub found_on_stack : (i : Instance) (s : Stack) (n : ℕ) (rule : Rule) {found : Found} {q : Place} → found ≡ lowest_in (with_item i s n rule) → found ≡ At q
+pub found_on_stack : (i : Instance) (s : Stack) (n : ℕ) (rule : Rule) {found : Option Place} {q : Place} → found ≡ lowest_in (with_item i s n rule) → found ≡ Some q
     → on_stack rule ≡ true
 unfolding with_item
 found_on_stack i s n (OfStacks rule) e f = refl

@@ -1,16 +1,15 @@
 -- All rules on an item, and all rules on the stack itself, told by tests that are joined.
-use mathlib.Core.Path.{◌≡◌, refl, sym, ◌∙◌}
+use mathlib.Core.Path.{◌≡◌, refl, sym, ap, ◌∙◌}
 use mathlib.Core.Logic.{◌↔◌}
 use mathlib.Core.Bool.{Bool, true, false, not, ◌&&◌}
 use mathlib.Core.List.{List, []}
 use Prim.Native.Nat.{ℕ}
-use borrow.Author.Tests.{not-false}
 use Rattle.meaning.specs.declared.Place.{Place}
 use Rattle.meaning.specs.Model.{Instance, Stack, Item, item}
-use Rattle.meaning.proofs.Tests.{and_reads, iff_both, iff_trans}
+use Rattle.meaning.proofs.Tests.{true≢false, and_reads, iff_both, iff_trans}
 use Rattle.meaning.proofs.Lists.{unless_none}
-use Rattle.search.specs.declared.Found.{Found}
-use Rattle.search.specs.declared.Found.TheVariants.{Nothing}
+use Rattle.std.specs.Prelude.{Option, Some, None}
+use Rattle.std.specs.Option.{is_some}
 use Rattle.search.specs.Lowest.{lowest_in}
 use Rattle.search.proofs.Lowest.{empty_found, none_listed}
 use Rattle.rules.specs.declared.Rule.{Rule}
@@ -26,9 +25,20 @@ pub both : {a b : Bool} {P Q : Type 0} → (a ≡ true) ↔ P → (b ≡ true) �
 both {a} {b} p q = iff_trans (and_reads a b) (iff_both p q)
 
 -- a search that finds nothing
-pub nothing_told : {found : Found} {nothing : Bool} (places : List Place) → found ≡ lowest_in places → (nothing ≡ true) ↔ (found ≡ Nothing)
+pub nothing_told : {found : Option Place} {nothing : Bool} (places : List Place) → found ≡ lowest_in places → is_some found ≡ not nothing
     → (nothing ≡ true) ↔ (places ≡ [])
-nothing_told places is told = ((λ e. none_listed places (sym (told.0 e) ∙ is)), (λ e. told.1 (is ∙ sym (empty_found places e))))
+nothing_told {found} {nothing} places is told = (
+  (λ e. none_listed places (sym (none found (told ∙ ap not e)) ∙ is)),
+  (λ e. go nothing (sym told ∙ ap is_some (is ∙ sym (empty_found places e)))),
+)
+  where
+    none : (o : Option Place) → is_some o ≡ false → o ≡ None
+    none None e = refl
+    none (Some p) e = absurd (true≢false e)
+
+    go : (b : Bool) → not b ≡ false → b ≡ true
+    go true e = refl
+    go false e = absurd (true≢false e)
 
 -- ---- an item
 module _ (i : Instance) (s : Stack) (a : Item) where
@@ -71,7 +81,7 @@ module _ (i : Instance) (s : Stack) where
 
   -- as the code tells it
   pub all_kept_lem : (n : ℕ) {own each : Bool} {s' : Stack} → s' ≡ s → (own ≡ true) ↔ OwnRulesKept i s → each ≡ every_item_test i s' (item i n)
-      → not (own && each) ≡ false → (rule : Rule) → with_item i s n rule ≡ []
+      → (own && each) ≡ true → (rule : Rule) → with_item i s n rule ≡ []
   all_kept_lem n {own} {each} same told e kept =
-      let k = (and_reads own each).0 (not-false _ kept) in
+      let k = (and_reads own each).0 kept in
       none_broken n (told.0 k.0) (rw (← same) (sym e ∙ k.1))

@@ -6,7 +6,9 @@ use Prim.Native.Nat.{ℕ, ◌+◌, ◌*◌, ◌<◌}
 use native.Mathlib.Omega.{arith}
 use lib.Dec.{leb, eqb}
 use lib.ListN.{length, get_or, drop}
+use Rattle.std.specs.Prelude.{Option}
 use Rattle.meaning.specs.declared.Limits.{Limits}
+use Rattle.meaning.specs.declared.Place.{Place}
 use Rattle.meaning.specs.Lists.{only_if, sum}
 use Rattle.meaning.specs.Places.{place}
 use Rattle.meaning.specs.Model.{Instance, Stack, item, truck_numbered, number, IM, ISM, TL, TW, TH, TMM, TF, TEM}
@@ -14,7 +16,6 @@ use Rattle.meaning.specs.Measures.{weight, sm, sl, sw}
 use Rattle.meaning.specs.Rules.{stack_places}
 use Rattle.meaning.specs.Table.{instance_in, stacks_in}
 use Rattle.table.specs.Filled.{stack_at, TruckNumber}
-use Rattle.search.specs.declared.Found.{Found}
 use Rattle.search.specs.Lowest.{lowest_in}
 use Rattle.views.specs.declared.Footprint.{Footprint}
 use Rattle.views.specs.declared.Size.{Size}
@@ -33,7 +34,7 @@ use Rattle.stackrules.specs.StackRules.{own_places, with_item}
 use Rattle.stackrules.proofs.Docks.{docks_tested}
 
 -- a test of the code, the stack's number and an amount give the place of a rule on that stack
-one_stack_lem : (rule : OwnRule) (i : Instance) (s : Stack) (test : Bool) {n a : ℕ} {r : Found} → r ≡ lowest_in (only_if (not test) (place n a 0)) → n ≡ number s
+one_stack_lem : (rule : OwnRule) (i : Instance) (s : Stack) (test : Bool) {n a : ℕ} {r : Option Place} → r ≡ lowest_in (only_if (not test) (place n a 0)) → n ≡ number s
     → a ≡ own_amount rule i s → test ≡ own_test rule i s → r ≡ lowest_in (own_places rule i s)
 unfolding stack_places flat_map
 one_stack_lem rule i s test er en ea et = er ∙ ap lowest_in (rw (et, en, ea) (sym (append-nil (only_if (not (own_test rule i s)) (place (number s) (own_amount rule i s) 0)))))
@@ -65,12 +66,12 @@ module _ {m : Limits} {t rows : List ℕ} (h : HoldsRows m t rows) {k : ℕ} (kn
     numbered : first ≡ number (manifest_at p k)
     numbered = named ∙ word_is h k known 1 (omega arith)
 
-    pub item_is : (rule : ItemRule) (n : ℕ) {r : Found} {s : ℕ} {kept : Bool} → s ≡ row_word rows k 0 → kept ≡ item_test rule i (stack_at p s) (item i n)
+    pub item_is : (rule : ItemRule) (n : ℕ) {r : Option Place} {s : ℕ} {kept : Bool} → s ≡ row_word rows k 0 → kept ≡ item_test rule i (stack_at p s) (item i n)
         → r ≡ lowest_in (only_if (not kept) (place first n 0)) → r ≡ lowest_in (with_item i (manifest_at p k) n (OfStacks (EachItem rule)))
     unfolding with_item
     item_is rule n es ek er = er ∙ rw (ek, stack_same es, numbered) refl
 
-    pub docks_is : {r : Found} {count truck flag low high : ℕ} → count ≡ row_word rows k 9 → truck ≡ row_word rows k 2 → flag ≡ TF (truck_numbered i truck)
+    pub docks_is : {r : Option Place} {count truck flag low high : ℕ} → count ≡ row_word rows k 9 → truck ≡ row_word rows k 2 → flag ≡ TF (truck_numbered i truck)
         → low ≡ row_word rows k 14 → high ≡ row_word rows k 15
         → r ≡ lowest_in (only_if (not (leb count 1 || (eqb flag 1 && (eqb count 2 && eqb (low + 1) high)))) (place first count 0))
         → r ≡ lowest_in (own_places Docks i (manifest_at p k))
@@ -81,7 +82,7 @@ module _ {m : Limits} {t rows : List ℕ} (h : HoldsRows m t rows) {k : ℕ} (kn
         (docks_tested i (s ∷ []) s count flag low high (orders_bound h.filled (get_or (manifest_order p) k 0) (order_within p k known)) docks
         (ef ∙ rw (truck_same et) refl) (el ∙ word_is h k known 14 (omega arith)) (eh ∙ word_is h k known 15 (omega arith)))
 
-    pub top_heavy_is : {r : Found} {s above truck limit : ℕ} {load : List ℕ} → s ≡ row_word rows k 0 → load ≡ (stack_at p s).load → above ≡ sum (λ n. IM (item i n)) (drop 1 load)
+    pub top_heavy_is : {r : Option Place} {s above truck limit : ℕ} {load : List ℕ} → s ≡ row_word rows k 0 → load ≡ (stack_at p s).load → above ≡ sum (λ n. IM (item i n)) (drop 1 load)
         → truck ≡ row_word rows k 2 → limit ≡ TMM (truck_numbered i truck) → r ≡ lowest_in (only_if (not (leb above limit)) (place first above 0))
         → r ≡ lowest_in (own_places TopHeavy i (manifest_at p k))
     unfolding weight
@@ -89,19 +90,19 @@ module _ {m : Limits} {t rows : List ℕ} (h : HoldsRows m t rows) {k : ℕ} (kn
         one_stack_lem TopHeavy i (manifest_at p k) (leb above limit) er numbered (ea ∙ rw (eo, stack_same es) refl)
         (rw (ea, el, eo, stack_same es, truck_same et) refl)
 
-    pub too_many_is : {r : Found} {s count most : ℕ} {load : List ℕ} → s ≡ row_word rows k 0 → load ≡ (stack_at p s).load → count ≡ length load → most ≡ ISM (item i (get_or load 0 0))
+    pub too_many_is : {r : Option Place} {s count most : ℕ} {load : List ℕ} → s ≡ row_word rows k 0 → load ≡ (stack_at p s).load → count ≡ length load → most ≡ ISM (item i (get_or load 0 0))
         → r ≡ lowest_in (only_if (not (leb count most)) (place first count 0)) → r ≡ lowest_in (own_places TooMany i (manifest_at p k))
     too_many_is {count = count} {most = most} es eo ec em er =
         one_stack_lem TooMany i (manifest_at p k) (leb count most) er numbered (ec ∙ rw (eo, stack_same es) refl) (rw (ec, em, eo, stack_same es) refl)
 
-    pub dense_is : {r : Found} {s heavy truck limit long wide : ℕ} {kept : Bool} → s ≡ row_word rows k 0 → heavy ≡ row_word rows k 8 → truck ≡ row_word rows k 2
+    pub dense_is : {r : Option Place} {s heavy truck limit long wide : ℕ} {kept : Bool} → s ≡ row_word rows k 0 → heavy ≡ row_word rows k 8 → truck ≡ row_word rows k 2
         → limit ≡ TEM (truck_numbered i truck) → long ≡ sl i (stack_at p s) → wide ≡ sw i (stack_at p s) → kept ≡ leb (heavy * 1000000) (limit * long * wide)
         → r ≡ lowest_in (only_if (not kept) (place first heavy 0)) → r ≡ lowest_in (own_places Dense i (manifest_at p k))
     dense_is {heavy = heavy} es eh et el elong ew ek er =
         let sum : heavy ≡ sm i (manifest_at p k) = eh ∙ word_is h k known 8 (omega arith) in
         one_stack_lem Dense i (manifest_at p k) _ er numbered sum (ek ∙ rw (sum, el, elong, ew, stack_same es, truck_same et) refl)
 
-    pub outside_is : {r : Found} {s truck long wide high side : ℕ} {ground : Footprint} {size : Size} {load : List ℕ} → s ≡ row_word rows k 0 → load ≡ (stack_at p s).load → truck ≡ row_word rows k 2
+    pub outside_is : {r : Option Place} {s truck long wide high side : ℕ} {ground : Footprint} {size : Size} {load : List ℕ} → s ≡ row_word rows k 0 → load ≡ (stack_at p s).load → truck ≡ row_word rows k 2
         → ground ≡ footprint_at rows k → size ≡ size_of i load → long ≡ TL (truck_numbered i truck) → wide ≡ TW (truck_numbered i truck)
         → high ≡ TH (truck_numbered i truck) → side ≡ cond (not (leb ground.xe long)) 1 (cond (not (leb ground.ye wide)) 2 3)
         → r ≡ lowest_in (only_if (not ((leb ground.xe long && leb ground.ye wide) && leb size.height high)) (place first side 0))

@@ -1,12 +1,13 @@
 -- The rules on single stacks: all rules on an item or on the stack itself at once, and the first one that is broken.
-use Rattle.std.specs.Prelude.{◌≡◌, Bool, true, not, cond, ◌&&◌, List, [], ◌∷◌, ℕ, ◌+◌, ◌-◌, ◌≤◌, ◌<◌, ltb, eqb, length, get_or}
+use Rattle.std.specs.Prelude.{◌≡◌, Bool, true, not, ◌&&◌, Option, Some, None, List, [], ◌∷◌, ℕ, ◌+◌, ◌-◌, ◌≤◌, ◌<◌, eqb, length, get_or}
+use Rattle.std.specs.declared.cmp.Ordering.{Ordering}
+use Rattle.std.specs.Ordering.{nat_cmp, ordering_then}
 use Rattle.meaning.specs.declared.Place.{Place}
 use Rattle.meaning.specs.Lists.{filter, only_if}
 use Rattle.meaning.specs.Places.{place}
 use Rattle.meaning.specs.Model.{Instance, Stack, Item, item, number}
 use Rattle.meaning.specs.Rules.{plant_matches, product_carried, supplier_visited, arrives_in_window, docks_served, stackable, orientation_kept, times_loaded}
-use Rattle.search.specs.declared.Found.TheVariants.{At}
-use Rattle.search.specs.Lowest.{lowest_in, lower_place}
+use Rattle.search.specs.Lowest.{lowest_in, place_cmp}
 use Rattle.rules.specs.declared.Rule.{Rule}
 use Rattle.rules.specs.declared.Rule.TheVariants.{OfStacks, OfPairs, OfTrucks}
 use Rattle.rules.specs.declared.OwnRule.{OwnRule}
@@ -35,24 +36,22 @@ with_item i s n (OfPairs rule) = []
 with_item i s n (OfTrucks rule) = []
 
 -- ---- the first rule on stacks that is broken
--- none is
-abbrev pub no_breach : Breach
-no_breach = record { rank = rule_count; place = place 0 0 0 }
+-- how two breaches compare, as their derived order has it: by rank, and of one rule by place
+abbrev pub breach_cmp : Breach → Breach → Ordering
+breach_cmp a b = ordering_then (nat_cmp a.rank b.rank) (place_cmp a.place b.place)
 
--- the breach of the lower rank, and of one rule the lower place
-abbrev pub sooner_of : Breach → Breach → Breach
-sooner_of a b =
-    cond (ltb a.rank b.rank) a (cond (ltb b.rank a.rank) b (record { rank = a.rank; place = lower_place a.place b.place }))
+-- the rank of a breach; where there is none, the number of rules
+abbrev pub rank_of : Option Breach → ℕ
+rank_of None = rule_count
+rank_of (Some b) = b.rank
 
 -- the breach is that of the first rule on stacks that has places, with the lowest of them; where none has any, it is none
-pub record FirstOf (places : Rule → List Place) (r : Breach) : Type 0 where
-  pub upto : r.rank ≤ rule_count
-  pub kept : (k : ℕ) → k < r.rank → on_stack (rule_at k) ≡ true → places (rule_at k) ≡ []
-  pub broken : r.rank < rule_count → (on_stack (rule_at r.rank) ≡ true) × (At r.place ≡ lowest_in (places (rule_at r.rank)))
-  pub none : r.rank ≡ rule_count → r.place ≡ place 0 0 0
+pub record FirstOf (places : Rule → List Place) (r : Option Breach) : Type 0 where
+  pub kept : (k : ℕ) → k < rank_of r → on_stack (rule_at k) ≡ true → places (rule_at k) ≡ []
+  pub broken : (b : Breach) → r ≡ Some b → (b.rank < rule_count) × (on_stack (rule_at b.rank) ≡ true) × (Some b.place ≡ lowest_in (places (rule_at b.rank)))
 
 -- it is that of the first rule on stacks that these stacks break
-abbrev pub FirstOnStacks : Instance → List Stack → Breach → Type 0
+abbrev pub FirstOnStacks : Instance → List Stack → Option Breach → Type 0
 FirstOnStacks i p r = FirstOf (λ rule. rule_places rule i p) r
 
 -- ---- counting

@@ -2,32 +2,29 @@
 // stacks tells the first of them that is broken.
 #![tactic(auto)]
 
-ghost use Rattle.std.specs.Prelude.{◌≡◌, ◌↔◌, true, not, cond, [], ◌∷◌, ◌+◌, ◌*◌, ◌≤◌, ◌<◌, leb, eqb, length, get_or};
+ghost use Rattle.std.specs.Prelude.{[], ◌≡◌, ◌↔◌, true, not, cond, ◌∷◌, ◌+◌, ◌*◌, ◌≤◌, ◌<◌, leb, eqb, length, get_or};
 ghost use Rattle.meaning.specs.Model.{item};
 ghost use Rattle.meaning.specs.Measures.{bottom};
-ghost use Rattle.meaning.specs.Table.{instance_in, stacks_in};
 ghost use Rattle.meaning.specs.Rules.{not_once, plant_matches, product_carried, supplier_visited, arrives_in_window, docks_served};
 ghost use Rattle.meaning.specs.Rules.{stackable, orientation_kept};
-ghost use Rattle.table.specs.Filled.{Filled, stack_at, ItemNumber};
+ghost use Rattle.table.specs.Filled.{stack_at, ItemNumber};
 ghost use Rattle.search.specs.Lowest.{lowest_in};
 ghost use Rattle.rules.specs.declared.Rule.TheVariants.{OfStacks};
 ghost use Rattle.rules.specs.LoadingRules.{item_test, rule_count, rule_at};
-ghost use Rattle.manifest.specs.Manifest.{manifest_at, HoldsRows};
-ghost use Rattle.stackrules.specs.StackRules.{every_item_test, own_places, OwnRulesKept, with_item, no_breach, sooner_of, FirstOf, FirstOnStacks};
+ghost use Rattle.manifest.specs.Manifest.{manifest_at};
+ghost use Rattle.stackrules.specs.StackRules.{every_item_test, own_places, OwnRulesKept, with_item, FirstOf, FirstOnStacks};
 ghost use Rattle.stackrules.specs.StackRules.{Countable, Counted, Tally};
+ghost use Rattle.table.specs.Held.{instance_of, stacks_of};
 
-use manifest::{footprint_at, row, row_word, stack_at};
-use meaning::{Limits, Place};
+use manifest::{Manifest, footprint_at, row, row_word, stack_at};
+use meaning::Place;
 use rules::{ItemRule, OwnRule, RULES, Rule, StackRule, rule_at};
-use search::{Found, is_nothing, lower_of, lower_place, place_if};
+use search::{lower_of, place_if};
 use table::fields::{
     IDE, IDL, IK, IL, IM, IO, IP, IR, IS, ISM, IU, IW, NUMBER, ORIENTATION, TDA, TEM, TF, TH, TL,
     TOP_LIMIT, TP, TW,
 };
-use table::{
-    clear, is_listed, item_count, item_field, load, products, stack_count, stack_field,
-    stack_truck, truck_field,
-};
+use table::{Table, clear, is_listed};
 use views::{
     bottom_field, load_sum, plant_dock_order, read_size, stack_truck_field, supplier_dock_order,
     supplier_order,
@@ -48,39 +45,32 @@ fn count_load(items: &[u32], times: &mut [u32])
     requires { Countable items.now times.old }
     ensures { Counted items.now times.old times.new }
 {
-    let mut j = items.len();
-    while 0 < j {
-        j -= 1;
-        let at = count_index(items[j]);
-        times[at] = times[at] + 1;
+    for n in items {
+        times[count_index(*n)] += 1;
     }
 }
 
 // How often each item is loaded.
-fn count_items(t: &[u32], limits: Limits, times: &mut [u32])
-    requires { Filled limits t.now × (length (instance_in limits t.now).items ≤ length times.old) }
-    ensures { Tally (length (instance_in limits t.now).items) (stacks_in limits t.now) times.new }
+fn count_items(table: Table<'_>, times: &mut [u32])
+    requires { length (instance_of table).items ≤ length times.old }
+    ensures { Tally (length (instance_of table.entry).items) (stacks_of table.entry) times.new }
 {
     clear(times);
-    let mut s = stack_count(t, limits);
-    while 0 < s {
-        s -= 1;
-        count_load(load(t, limits, s), times);
+    for s in (0..table.stack_count()).rev() {
+        count_load(table.load(s), times);
     }
 }
 
 // 9 not once: the lowest item that is not loaded once, and how often it is.
-pub fn lowest_not_once(t: &[u32], limits: Limits, times: &mut [u32]) -> Found
-    requires { Filled limits t.now × (length (instance_in limits t.now).items ≤ length times.old) }
-    ensures { result ≡ lowest_in (not_once (instance_in limits t.now) (stacks_in limits t.now)) }
+pub fn lowest_not_once(table: Table<'_>, times: &mut [u32]) -> Option<Place>
+    requires { length (instance_of table).items ≤ length times.old }
+    ensures { result ≡ lowest_in (not_once (instance_of table.entry) (stacks_of table.entry)) }
 {
-    count_items(t, limits, times);
-    let mut found = Found::Nothing;
-    let mut n = item_count(t, limits);
-    while 0 < n {
-        let count = times[count_index(n)];
-        found = lower_of(place_if(count != 1, n, count, 0), found);
-        n -= 1;
+    count_items(table, times);
+    let mut found = None;
+    for at in (0..table.item_count()).rev() {
+        let count = times[at as usize];
+        found = lower_of(place_if(count != 1, at + 1, count, 0), found);
     }
     found
 }
@@ -88,151 +78,156 @@ pub fn lowest_not_once(t: &[u32], limits: Limits, times: &mut [u32]) -> Found
 // ---- the rules on each item of a stack: 10 to 15 and 18
 
 // 10 plant, I2: the truck goes to the item's plant.
-fn plant_matches(t: &[u32], limits: Limits, s: usize, n: u32) -> bool
-    requires { Filled limits t.now × (s < length (stacks_in limits t.now)) × ItemNumber (instance_in limits t.now) n }
-    ensures { result ≡ plant_matches (instance_in limits t.now) (stack_at (stacks_in limits t.now) s)
-        (item (instance_in limits t.now) n) }
+fn plant_matches(table: Table<'_>, s: usize, n: u32) -> bool
+    requires { (s < length (stacks_of table)) × ItemNumber (instance_of table) n }
+    ensures { result ≡ plant_matches (instance_of table.entry) (stack_at (stacks_of table.entry) s)
+        (item (instance_of table.entry) n) }
 {
-    item_field(t, limits, n, IP) == stack_truck_field(t, limits, s, TP)
+    table.item_field(n, IP) == stack_truck_field(table, s, TP)
 }
 
 // 11 product, I3: the truck takes the item's product.
-fn product_carried(t: &[u32], limits: Limits, s: usize, n: u32) -> bool
-    requires { Filled limits t.now × (s < length (stacks_in limits t.now)) × ItemNumber (instance_in limits t.now) n }
-    ensures { result ≡ product_carried (instance_in limits t.now) (stack_at (stacks_in limits t.now) s)
-        (item (instance_in limits t.now) n) }
+fn product_carried(table: Table<'_>, s: usize, n: u32) -> bool
+    requires { (s < length (stacks_of table)) × ItemNumber (instance_of table) n }
+    ensures { result ≡ product_carried (instance_of table.entry) (stack_at (stacks_of table.entry) s)
+        (item (instance_of table.entry) n) }
 {
-    let list = products(t, limits, stack_truck(t, limits, s));
-    is_listed(list, item_field(t, limits, n, IR))
+    let list = table.products(table.stack_truck(s));
+    is_listed(list, table.item_field(n, IR))
 }
 
 // 12 supplier, I4: the truck stops at the item's supplier.
-fn supplier_visited(t: &[u32], limits: Limits, s: usize, n: u32) -> bool
-    requires { Filled limits t.now × (s < length (stacks_in limits t.now)) × ItemNumber (instance_in limits t.now) n }
-    ensures { result ≡ supplier_visited (instance_in limits t.now) (stack_at (stacks_in limits t.now) s)
-        (item (instance_in limits t.now) n) }
+fn supplier_visited(table: Table<'_>, s: usize, n: u32) -> bool
+    requires { (s < length (stacks_of table)) × ItemNumber (instance_of table) n }
+    ensures { result ≡ supplier_visited (instance_of table.entry) (stack_at (stacks_of table.entry) s)
+        (item (instance_of table.entry) n) }
 {
-    let truck = stack_truck(t, limits, s);
-    1 <= supplier_order(t, limits, truck, item_field(t, limits, n, IU))
+    let truck = table.stack_truck(s);
+    1 <= supplier_order(table, truck, table.item_field(n, IU))
 }
 
 // 13 day, I5: the truck arrives within the item's days.
-fn arrives_in_window(t: &[u32], limits: Limits, s: usize, n: u32) -> bool
-    requires { Filled limits t.now × (s < length (stacks_in limits t.now)) × ItemNumber (instance_in limits t.now) n }
-    ensures { result ≡ arrives_in_window (instance_in limits t.now) (stack_at (stacks_in limits t.now) s)
-        (item (instance_in limits t.now) n) }
+fn arrives_in_window(table: Table<'_>, s: usize, n: u32) -> bool
+    requires { (s < length (stacks_of table)) × ItemNumber (instance_of table) n }
+    ensures { result ≡ arrives_in_window (instance_of table.entry) (stack_at (stacks_of table.entry) s)
+        (item (instance_of table.entry) n) }
 {
-    let day = stack_truck_field(t, limits, s, TDA);
-    (item_field(t, limits, n, IDE) <= day) & (day <= item_field(t, limits, n, IDL))
+    let day = stack_truck_field(table, s, TDA);
+    (table.item_field(n, IDE) <= day) & (day <= table.item_field(n, IDL))
 }
 
 // 14 dock: both docks of the item are listed.
-fn docks_served(t: &[u32], limits: Limits, s: usize, n: u32) -> bool
-    requires { Filled limits t.now × (s < length (stacks_in limits t.now)) × ItemNumber (instance_in limits t.now) n }
-    ensures { result ≡ docks_served (instance_in limits t.now) (stack_at (stacks_in limits t.now) s)
-        (item (instance_in limits t.now) n) }
+fn docks_served(table: Table<'_>, s: usize, n: u32) -> bool
+    requires { (s < length (stacks_of table)) × ItemNumber (instance_of table) n }
+    ensures { result ≡ docks_served (instance_of table.entry) (stack_at (stacks_of table.entry) s)
+        (item (instance_of table.entry) n) }
 {
-    let truck = stack_truck(t, limits, s);
-    (1 <= supplier_dock_order(t, limits, truck, n)) & (1 <= plant_dock_order(t, limits, truck, n))
+    let truck = table.stack_truck(s);
+    (1 <= supplier_dock_order(table, truck, n)) & (1 <= plant_dock_order(table, truck, n))
 }
 
 // Whether an item has the bottom item's value in a field.
-fn matches_bottom(t: &[u32], limits: Limits, s: usize, n: u32, field: usize) -> bool
-    requires { Filled limits t.now × (s < length (stacks_in limits t.now)) × ItemNumber (instance_in limits t.now) n × (field < 16) }
-    ensures { result ≡ eqb (get_or (item (instance_in limits t.now) n) field 0)
-        (get_or (bottom (instance_in limits t.now) (stack_at (stacks_in limits t.now) s)) field 0) }
+fn matches_bottom(table: Table<'_>, s: usize, n: u32, field: usize) -> bool
+    requires { (s < length (stacks_of table)) × ItemNumber (instance_of table) n × (field < 16) }
+    ensures { result ≡ eqb (get_or (item (instance_of table.entry) n) field 0)
+        (get_or (bottom (instance_of table.entry) (stack_at (stacks_of table.entry) s)) field 0) }
 {
-    item_field(t, limits, n, field) == bottom_field(t, limits, s, field)
+    table.item_field(n, field) == bottom_field(table, s, field)
 }
 
 // 15 mixed, S1: supplier, plant, code, maximal stackability and supplier dock are the bottom item's.
-fn is_stackable(t: &[u32], limits: Limits, s: usize, n: u32) -> bool
-    requires { Filled limits t.now × (s < length (stacks_in limits t.now)) × ItemNumber (instance_in limits t.now) n }
-    ensures { result ≡ stackable (instance_in limits t.now) (stack_at (stacks_in limits t.now) s)
-        (item (instance_in limits t.now) n) }
+fn is_stackable(table: Table<'_>, s: usize, n: u32) -> bool
+    requires { (s < length (stacks_of table)) × ItemNumber (instance_of table) n }
+    ensures { result ≡ stackable (instance_of table.entry) (stack_at (stacks_of table.entry) s)
+        (item (instance_of table.entry) n) }
 {
-    (((matches_bottom(t, limits, s, n, IU) & matches_bottom(t, limits, s, n, IP))
-        & matches_bottom(t, limits, s, n, IS))
-        & matches_bottom(t, limits, s, n, ISM))
-        & matches_bottom(t, limits, s, n, IK)
+    (((matches_bottom(table, s, n, IU) & matches_bottom(table, s, n, IP))
+        & matches_bottom(table, s, n, IS))
+        & matches_bottom(table, s, n, ISM))
+        & matches_bottom(table, s, n, IK)
 }
 
 // 18 turned, S4: a forced orientation is the stack's.
-fn orientation_kept(t: &[u32], limits: Limits, s: usize, n: u32) -> bool
-    requires { Filled limits t.now × (s < length (stacks_in limits t.now)) × ItemNumber (instance_in limits t.now) n }
-    ensures { result ≡ orientation_kept (instance_in limits t.now) (stack_at (stacks_in limits t.now) s)
-        (item (instance_in limits t.now) n) }
+fn orientation_kept(table: Table<'_>, s: usize, n: u32) -> bool
+    requires { (s < length (stacks_of table)) × ItemNumber (instance_of table) n }
+    ensures { result ≡ orientation_kept (instance_of table.entry) (stack_at (stacks_of table.entry) s)
+        (item (instance_of table.entry) n) }
 {
-    let forced = item_field(t, limits, n, IO);
-    (forced == 0) | (forced == stack_field(t, limits, s, ORIENTATION))
+    let forced = table.item_field(n, IO);
+    (forced == 0) | (forced == table.stack_field(s, ORIENTATION))
 }
 
 // Whether an item of a stack keeps a rule.
-fn item_kept(rule: ItemRule, t: &[u32], limits: Limits, s: usize, n: u32) -> bool
-    requires { Filled limits t.now × (s < length (stacks_in limits t.now)) × ItemNumber (instance_in limits t.now) n }
-    ensures { result ≡ item_test rule (instance_in limits t.now) (stack_at (stacks_in limits t.now) s)
-        (item (instance_in limits t.now) n) }
+fn item_kept(rule: ItemRule, table: Table<'_>, s: usize, n: u32) -> bool
+    requires { (s < length (stacks_of table)) × ItemNumber (instance_of table) n }
+    ensures { result ≡ item_test rule (instance_of table.entry) (stack_at (stacks_of table.entry) s)
+        (item (instance_of table.entry) n) }
 {
     match rule {
-        ItemRule::Plant => plant_matches(t, limits, s, n),
-        ItemRule::Product => product_carried(t, limits, s, n),
-        ItemRule::Supplier => supplier_visited(t, limits, s, n),
-        ItemRule::Day => arrives_in_window(t, limits, s, n),
-        ItemRule::Dock => docks_served(t, limits, s, n),
-        ItemRule::Mixed => is_stackable(t, limits, s, n),
-        ItemRule::Turned => orientation_kept(t, limits, s, n),
+        ItemRule::Plant => plant_matches(table, s, n),
+        ItemRule::Product => product_carried(table, s, n),
+        ItemRule::Supplier => supplier_visited(table, s, n),
+        ItemRule::Day => arrives_in_window(table, s, n),
+        ItemRule::Dock => docks_served(table, s, n),
+        ItemRule::Mixed => is_stackable(table, s, n),
+        ItemRule::Turned => orientation_kept(table, s, n),
     }
 }
 
 // Whether an item of a stack keeps every rule on items.
-fn item_keeps_rules(t: &[u32], limits: Limits, s: usize, n: u32) -> bool
-    requires { Filled limits t.now × (s < length (stacks_in limits t.now)) × ItemNumber (instance_in limits t.now) n }
-    ensures { result ≡ every_item_test (instance_in limits t.now) (stack_at (stacks_in limits t.now) s)
-        (item (instance_in limits t.now) n) }
+fn item_keeps_rules(table: Table<'_>, s: usize, n: u32) -> bool
+    requires { (s < length (stacks_of table)) × ItemNumber (instance_of table) n }
+    ensures { result ≡ every_item_test (instance_of table.entry) (stack_at (stacks_of table.entry) s)
+        (item (instance_of table.entry) n) }
 {
-    (((((plant_matches(t, limits, s, n) & product_carried(t, limits, s, n))
-        & supplier_visited(t, limits, s, n))
-        & arrives_in_window(t, limits, s, n))
-        & docks_served(t, limits, s, n))
-        & is_stackable(t, limits, s, n))
-        & orientation_kept(t, limits, s, n)
+    (((((plant_matches(table, s, n) & product_carried(table, s, n)) & supplier_visited(table, s, n))
+        & arrives_in_window(table, s, n))
+        & docks_served(table, s, n))
+        & is_stackable(table, s, n))
+        & orientation_kept(table, s, n)
 }
 
 // ---- the rules on the stack itself: 16 and 19 to 22. Each function answers where the stack at place k of the rows breaks its rule
 
 // 16 docks, S2 and S3: one plant dock; where the truck's flag is set also two, if they are consecutive.
-fn docks_place(t: &[u32], limits: Limits, rows: &[u32], k: usize) -> Found
-    requires { HoldsRows limits t.now rows.now × (k < length (stacks_in limits t.now)) }
-    ensures { result ≡ lowest_in (own_places OwnRule.Docks (instance_in limits t.now) (manifest_at (stacks_in limits t.now) k)) }
+fn docks_place(manifest: Manifest<'_>, k: usize) -> Option<Place>
+    requires { k < length (stacks_of manifest.table) }
+    ensures { result ≡ lowest_in (own_places OwnRule.Docks (instance_of manifest.entry.table) (manifest_at (stacks_of manifest.entry.table) k)) }
 {
-    let count = row_word(rows, k, row::PLANT_DOCKS);
-    let two_docks = truck_field(t, limits, row_word(rows, k, row::TRUCK), TF) == 1;
-    let after = row_word(rows, k, row::LOWEST) + 1;
-    let consecutive = (count == 2) & (after == row_word(rows, k, row::HIGHEST));
+    let count = row_word(manifest.rows, k, row::PLANT_DOCKS);
+    let two_docks = manifest
+        .table
+        .truck_field(row_word(manifest.rows, k, row::TRUCK), TF)
+        == 1;
+    let after = row_word(manifest.rows, k, row::LOWEST) + 1;
+    let consecutive = (count == 2) & (after == row_word(manifest.rows, k, row::HIGHEST));
     let allowed = (count <= 1) | (two_docks & consecutive);
-    place_if(!allowed, row_word(rows, k, row::NUMBER), count, 0)
+    place_if(!allowed, row_word(manifest.rows, k, row::NUMBER), count, 0)
 }
 
 // 19 top heavy, S5: the weight above the bottom item is within the truck's limit.
-fn top_heavy_place(t: &[u32], limits: Limits, rows: &[u32], k: usize) -> Found
-    requires { HoldsRows limits t.now rows.now × (k < length (stacks_in limits t.now)) }
-    ensures { result ≡ lowest_in (own_places OwnRule.TopHeavy (instance_in limits t.now) (manifest_at (stacks_in limits t.now) k)) }
+fn top_heavy_place(manifest: Manifest<'_>, k: usize) -> Option<Place>
+    requires { k < length (stacks_of manifest.table) }
+    ensures { result ≡ lowest_in (own_places OwnRule.TopHeavy (instance_of manifest.entry.table) (manifest_at (stacks_of manifest.entry.table) k)) }
 {
-    let items = load(t, limits, stack_at(rows, k));
-    let above = load_sum(t, limits, items, 1, IM);
-    let within = above <= truck_field(t, limits, row_word(rows, k, row::TRUCK), TOP_LIMIT);
-    place_if(!within, row_word(rows, k, row::NUMBER), above, 0)
+    let items = manifest.table.load(stack_at(manifest.rows, k));
+    let above = load_sum(manifest.table, items, 1, IM);
+    let within = above
+        <= manifest
+            .table
+            .truck_field(row_word(manifest.rows, k, row::TRUCK), TOP_LIMIT);
+    place_if(!within, row_word(manifest.rows, k, row::NUMBER), above, 0)
 }
 
 // 20 too many, S6: no more items than the maximal stackability.
-fn too_many_place(t: &[u32], limits: Limits, rows: &[u32], k: usize) -> Found
-    requires { HoldsRows limits t.now rows.now × (k < length (stacks_in limits t.now)) }
-    ensures { result ≡ lowest_in (own_places OwnRule.TooMany (instance_in limits t.now) (manifest_at (stacks_in limits t.now) k)) }
+fn too_many_place(manifest: Manifest<'_>, k: usize) -> Option<Place>
+    requires { k < length (stacks_of manifest.table) }
+    ensures { result ≡ lowest_in (own_places OwnRule.TooMany (instance_of manifest.entry.table) (manifest_at (stacks_of manifest.entry.table) k)) }
 {
-    let items = load(t, limits, stack_at(rows, k));
+    let items = manifest.table.load(stack_at(manifest.rows, k));
     let count = items.len() as u32;
-    let within = count <= item_field(t, limits, items[0], ISM);
-    place_if(!within, row_word(rows, k, row::NUMBER), count, 0)
+    let within = count <= manifest.table.item_field(items[0], ISM);
+    place_if(!within, row_word(manifest.rows, k, row::NUMBER), count, 0)
 }
 
 // Whether a stack of this weight in kilograms keeps the density limit, in kilograms per square metre, on this ground in square millimetres.
@@ -244,20 +239,22 @@ fn density_kept(weight: u32, limit: u32, length: u32, width: u32) -> bool
 }
 
 // 21 dense, S7: the weight on the ground is within the truck's density limit.
-fn dense_place(t: &[u32], limits: Limits, rows: &[u32], k: usize) -> Found
-    requires { HoldsRows limits t.now rows.now × (k < length (stacks_in limits t.now)) }
-    ensures { result ≡ lowest_in (own_places OwnRule.Dense (instance_in limits t.now) (manifest_at (stacks_in limits t.now) k)) }
+fn dense_place(manifest: Manifest<'_>, k: usize) -> Option<Place>
+    requires { k < length (stacks_of manifest.table) }
+    ensures { result ≡ lowest_in (own_places OwnRule.Dense (instance_of manifest.entry.table) (manifest_at (stacks_of manifest.entry.table) k)) }
 {
-    let s = stack_at(rows, k);
-    let weight = row_word(rows, k, row::WEIGHT);
-    let limit = truck_field(t, limits, row_word(rows, k, row::TRUCK), TEM);
+    let s = stack_at(manifest.rows, k);
+    let weight = row_word(manifest.rows, k, row::WEIGHT);
+    let limit = manifest
+        .table
+        .truck_field(row_word(manifest.rows, k, row::TRUCK), TEM);
     let kept = density_kept(
         weight,
         limit,
-        bottom_field(t, limits, s, IL),
-        bottom_field(t, limits, s, IW),
+        bottom_field(manifest.table, s, IL),
+        bottom_field(manifest.table, s, IW),
     );
-    place_if(!kept, row_word(rows, k, row::NUMBER), weight, 0)
+    place_if(!kept, row_word(manifest.rows, k, row::NUMBER), weight, 0)
 }
 
 // The lowest dimension that does not fit: 1 length, 2 width, 3 height. The two tests say whether length and width fit.
@@ -274,165 +271,128 @@ fn exceeded_side(length: bool, width: bool) -> u32
 }
 
 // 22 outside, P1: the stack is within the trailer.
-fn outside_place(t: &[u32], limits: Limits, rows: &[u32], k: usize) -> Found
-    requires { HoldsRows limits t.now rows.now × (k < length (stacks_in limits t.now)) }
-    ensures { result ≡ lowest_in (own_places OwnRule.Outside (instance_in limits t.now) (manifest_at (stacks_in limits t.now) k)) }
+fn outside_place(manifest: Manifest<'_>, k: usize) -> Option<Place>
+    requires { k < length (stacks_of manifest.table) }
+    ensures { result ≡ lowest_in (own_places OwnRule.Outside (instance_of manifest.entry.table) (manifest_at (stacks_of manifest.entry.table) k)) }
 {
-    let number = row_word(rows, k, row::NUMBER);
-    let truck = row_word(rows, k, row::TRUCK);
-    let ground = footprint_at(rows, k);
-    let size = read_size(t, limits, load(t, limits, stack_at(rows, k)));
-    let within_length = ground.xe <= truck_field(t, limits, truck, TL);
-    let within_width = ground.ye <= truck_field(t, limits, truck, TW);
-    let within_height = size.height <= truck_field(t, limits, truck, TH);
+    let number = row_word(manifest.rows, k, row::NUMBER);
+    let truck = row_word(manifest.rows, k, row::TRUCK);
+    let ground = footprint_at(manifest.rows, k);
+    let size = read_size(
+        manifest.table,
+        manifest.table.load(stack_at(manifest.rows, k)),
+    );
+    let within_length = ground.xe <= manifest.table.truck_field(truck, TL);
+    let within_width = ground.ye <= manifest.table.truck_field(truck, TW);
+    let within_height = size.height <= manifest.table.truck_field(truck, TH);
     let inside = (within_length & within_width) & within_height;
     let side = exceeded_side(within_length, within_width);
     place_if(!inside, number, side, 0)
 }
 
 // Where the stack at place k breaks a rule on itself.
-fn own_place(rule: OwnRule, t: &[u32], limits: Limits, rows: &[u32], k: usize) -> Found
-    requires { HoldsRows limits t.now rows.now × (k < length (stacks_in limits t.now)) }
-    ensures { result ≡ lowest_in (own_places rule (instance_in limits t.now) (manifest_at (stacks_in limits t.now) k)) }
+fn own_place(rule: OwnRule, manifest: Manifest<'_>, k: usize) -> Option<Place>
+    requires { k < length (stacks_of manifest.table) }
+    ensures { result ≡ lowest_in (own_places rule (instance_of manifest.entry.table) (manifest_at (stacks_of manifest.entry.table) k)) }
 {
     match rule {
-        OwnRule::Docks => docks_place(t, limits, rows, k),
-        OwnRule::TopHeavy => top_heavy_place(t, limits, rows, k),
-        OwnRule::TooMany => too_many_place(t, limits, rows, k),
-        OwnRule::Dense => dense_place(t, limits, rows, k),
-        OwnRule::Outside => outside_place(t, limits, rows, k),
+        OwnRule::Docks => docks_place(manifest, k),
+        OwnRule::TopHeavy => top_heavy_place(manifest, k),
+        OwnRule::TooMany => too_many_place(manifest, k),
+        OwnRule::Dense => dense_place(manifest, k),
+        OwnRule::Outside => outside_place(manifest, k),
     }
 }
 
 // Whether the stack at place k keeps every rule on the stack itself.
-fn own_rules_kept(t: &[u32], limits: Limits, rows: &[u32], k: usize) -> bool
-    requires { HoldsRows limits t.now rows.now × (k < length (stacks_in limits t.now)) }
-    ensures { (result ≡ true) ↔ OwnRulesKept (instance_in limits t.now) (manifest_at (stacks_in limits t.now) k) }
+fn own_rules_kept(manifest: Manifest<'_>, k: usize) -> bool
+    requires { k < length (stacks_of manifest.table) }
+    ensures { (result ≡ true) ↔ OwnRulesKept (instance_of manifest.entry.table) (manifest_at (stacks_of manifest.entry.table) k) }
 {
-    let docks = is_nothing(docks_place(t, limits, rows, k));
-    let top = is_nothing(top_heavy_place(t, limits, rows, k));
-    let count = is_nothing(too_many_place(t, limits, rows, k));
-    let density = is_nothing(dense_place(t, limits, rows, k));
-    let ground = is_nothing(outside_place(t, limits, rows, k));
+    let docks = docks_place(manifest, k).is_none();
+    let top = top_heavy_place(manifest, k).is_none();
+    let count = too_many_place(manifest, k).is_none();
+    let density = dense_place(manifest, k).is_none();
+    let ground = outside_place(manifest, k).is_none();
     (((docks & top) & count) & density) & ground
 }
 
 // ---- the first rule on stacks that is broken
 
-// A broken rule by its rank, and a place where it is broken. Where no rule is, the rank is RULES and the place is zeros.
-#[derive(Clone, Copy)]
+// A broken rule by its rank, and a place where it is broken. Of two breaches the sooner is the lower: that of the lower rank, and of one
+// rule the lower place.
+#[derive(Clone, Copy, PartialEq, Eq, PartialOrd, Ord)]
 pub struct Breach {
     pub rank: usize,
     pub place: Place,
 }
 
-// No rule is broken.
-fn no_breach() -> Breach
-    ensures { result ≡ no_breach }
-{
-    Breach {
-        rank: RULES,
-        place: Place {
-            first: 0,
-            second: 0,
-            third: 0,
-        },
-    }
-}
-
-// The sooner of two breaches: that of the lower rank, and of one rule the lower place.
-fn sooner(a: Breach, b: Breach) -> Breach
-    ensures { result ≡ sooner_of a b }
-{
-    if a.rank < b.rank {
-        return a;
-    }
-    if b.rank < a.rank {
-        return b;
-    }
-    let first = a.place;
-    let second = b.place;
-    Breach {
-        rank: a.rank,
-        place: lower_place(first, second),
-    }
-}
-
 // Where the stack at place k breaks a rule on itself, or with its item n a rule on items.
-fn stack_place(rule: StackRule, t: &[u32], limits: Limits, rows: &[u32], k: usize, n: u32) -> Found
-    requires { HoldsRows limits t.now rows.now × (k < length (stacks_in limits t.now)) × ItemNumber (instance_in limits t.now) n }
-    ensures { result ≡ lowest_in (with_item (instance_in limits t.now) (manifest_at (stacks_in limits t.now) k) n (OfStacks rule)) }
+fn stack_place(rule: StackRule, manifest: Manifest<'_>, k: usize, n: u32) -> Option<Place>
+    requires { (k < length (stacks_of manifest.table)) × ItemNumber (instance_of manifest.table) n }
+    ensures { result ≡ lowest_in (with_item (instance_of manifest.entry.table) (manifest_at (stacks_of manifest.entry.table) k) n (OfStacks rule)) }
 {
     match rule {
         StackRule::EachItem(each) => {
-            let kept = item_kept(each, t, limits, stack_at(rows, k), n);
-            place_if(!kept, row_word(rows, k, row::NUMBER), n, 0)
+            let kept = item_kept(each, manifest.table, stack_at(manifest.rows, k), n);
+            place_if(!kept, row_word(manifest.rows, k, row::NUMBER), n, 0)
         }
-        StackRule::Own(own) => own_place(own, t, limits, rows, k),
+        StackRule::Own(own) => own_place(own, manifest, k),
     }
 }
 
 // The same for the rule of a rank; a rule on pairs or on trucks has no place here.
-fn rank_place(rank: usize, t: &[u32], limits: Limits, rows: &[u32], k: usize, n: u32) -> Found
-    requires { HoldsRows limits t.now rows.now × (k < length (stacks_in limits t.now)) × ItemNumber (instance_in limits t.now) n × (rank < rule_count) }
-    ensures { result ≡ lowest_in (with_item (instance_in limits t.now) (manifest_at (stacks_in limits t.now) k) n (rule_at rank)) }
+fn rank_place(rank: usize, manifest: Manifest<'_>, k: usize, n: u32) -> Option<Place>
+    requires { (k < length (stacks_of manifest.table)) × ItemNumber (instance_of manifest.table) n × (rank < rule_count) }
+    ensures { result ≡ lowest_in (with_item (instance_of manifest.entry.table) (manifest_at (stacks_of manifest.entry.table) k) n (rule_at rank)) }
 {
     let rule = rule_at(rank);
     match rule {
-        Rule::OfStacks(each) => stack_place(each, t, limits, rows, k, n),
-        Rule::OfPairs(_) => Found::Nothing,
-        Rule::OfTrucks(_) => Found::Nothing,
+        Rule::OfStacks(each) => stack_place(each, manifest, k, n),
+        Rule::OfPairs(_) => None,
+        Rule::OfTrucks(_) => None,
     }
 }
 
 // The first rule that the stack at place k breaks by itself or with its item n.
-fn breach_with_item(t: &[u32], limits: Limits, rows: &[u32], k: usize, n: u32) -> Breach
-    requires { HoldsRows limits t.now rows.now × (k < length (stacks_in limits t.now)) × ItemNumber (instance_in limits t.now) n }
-    ensures { FirstOf (with_item (instance_in limits t.now) (manifest_at (stacks_in limits t.now) k) n) result }
+fn breach_with_item(manifest: Manifest<'_>, k: usize, n: u32) -> Option<Breach>
+    requires { (k < length (stacks_of manifest.table)) × ItemNumber (instance_of manifest.table) n }
+    ensures { FirstOf (with_item (instance_of manifest.entry.table) (manifest_at (stacks_of manifest.entry.table) k) n) result }
 {
-    let mut rank = 0;
-    while rank < RULES {
-        let found = rank_place(rank, t, limits, rows, k, n);
-        match found {
-            Found::At(place) => return Breach { rank, place },
-            Found::Nothing => {}
+    for rank in 0..RULES {
+        if let Some(place) = rank_place(rank, manifest, k, n) {
+            return Some(Breach { rank, place });
         }
-        rank += 1;
     }
-    no_breach()
+    None
 }
 
 // The first rule on stacks that the stack at place k breaks, with its lowest place there. No rule is asked by itself where all are kept,
 // as they mostly are.
-fn stack_breach(t: &[u32], limits: Limits, rows: &[u32], k: usize) -> Breach
-    requires { HoldsRows limits t.now rows.now × (k < length (stacks_in limits t.now)) }
-    ensures { FirstOnStacks (instance_in limits t.now) (manifest_at (stacks_in limits t.now) k ∷ []) result }
+fn stack_breach(manifest: Manifest<'_>, k: usize) -> Option<Breach>
+    requires { k < length (stacks_of manifest.table) }
+    ensures { FirstOnStacks (instance_of manifest.entry.table) (manifest_at (stacks_of manifest.entry.table) k ∷ []) result }
 {
-    let own = own_rules_kept(t, limits, rows, k);
-    let s = stack_at(rows, k);
-    let items = load(t, limits, s);
-    let mut first = no_breach();
-    let mut j = items.len();
-    while 0 < j {
-        j -= 1;
+    let own = own_rules_kept(manifest, k);
+    let s = stack_at(manifest.rows, k);
+    let items = manifest.table.load(s);
+    let mut first = None;
+    for j in (0..items.len()).rev() {
         let n = items[j];
-        if !(own & item_keeps_rules(t, limits, s, n)) {
-            first = sooner(breach_with_item(t, limits, rows, k, n), first);
+        if !(own & item_keeps_rules(manifest.table, s, n)) {
+            first = lower_of(breach_with_item(manifest, k, n), first);
         }
     }
     first
 }
 
 // The first rule on stacks that the plan breaks, with its lowest place.
-pub fn first_on_stacks(t: &[u32], limits: Limits, rows: &[u32]) -> Breach
-    requires { HoldsRows limits t.now rows.now }
-    ensures { FirstOnStacks (instance_in limits t.now) (stacks_in limits t.now) result }
+pub fn first_on_stacks(manifest: Manifest<'_>) -> Option<Breach>
+    ensures { FirstOnStacks (instance_of manifest.entry.table) (stacks_of manifest.entry.table) result }
 {
-    let mut first = no_breach();
-    let mut k = stack_count(t, limits);
-    while 0 < k {
-        k -= 1;
-        first = sooner(stack_breach(t, limits, rows, k), first);
+    let mut first = None;
+    for k in (0..manifest.table.stack_count()).rev() {
+        first = lower_of(stack_breach(manifest, k), first);
     }
     first
 }

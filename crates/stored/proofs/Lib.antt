@@ -6,3 +6,4 @@ pub mod Truck
 pub mod Parts
 pub mod Stacks
 pub mod Whole
+pub mod Outcomes

@@ -1,24 +1,13 @@
 -- A loop over a list that is left at the first element which fails a test: what it has passed does not decide any more.
-use mathlib.Core.Path.{◌≡◌, refl, sym, ap, ◌∙◌}
-use mathlib.Core.Bool.{Bool, true, false, not, ◌&&◌}
-use mathlib.Core.List.{List, []}
-use Prim.Native.Nat.{ℕ, ◌+◌, ◌-◌, ◌*◌, ◌≤◌, ◌<◌}
+use mathlib.Core.Path.{◌≡◌, refl, sym, ap, ap₂, ◌∙◌}
+use mathlib.Core.Bool.{Bool, true, false, ◌&&◌}
+use mathlib.Core.List.{List, ◌++◌}
+use Prim.Native.Nat.{ℕ, zero, suc, ◌+◌, ◌-◌, ◌*◌, ◌≤◌, ◌<◌}
 use native.Mathlib.Omega.{arith}
-use lib.ListN.{length, get_or, take, drop, length-drop, drop_of_length-le}
-use lib.Seq.{take_all}
+use lib.ListN.{length, get_or, take, drop, length-append, length-drop, drop_of_length-le}
+use lib.Seq.{take_all, take_at, drop_at}
 use Rattle.meaning.specs.Lists.{all, chunks, up_from}
 use Rattle.meaning.proofs.Lists.{drop_next, length_up_from, up_from_at}
-use Rattle.table.proofs.Parts.{length_chunks, chunk_at}
-use Rattle.stored.specs.Parts.{zeros, rows_stored}
-
--- a test that was found to fail
-pub fell : (b : Bool) → not b ≡ true → b ≡ false
-fell true e = sym e
-fell false e = refl
-
-pub stood : (b : Bool) → not b ≡ false → b ≡ true
-stood true e = refl
-stood false e = sym e
 
 -- the elements from place k on decide whether all pass
 pub record Passed {A : Type 0} (test : A → Bool) (l : List A) (k : ℕ) : Type 0 where
@@ -26,9 +15,6 @@ pub record Passed {A : Type 0} (test : A → Bool) (l : List A) (k : ℕ) : Type
   pub decides : all test (drop k l) ≡ all test l
 
 module _ {A : Type 0} {test : A → Bool} {l : List A} where
-  pub passed_none : Passed test l 0
-  passed_none = record { upto = omega arith; decides = refl }
-
   -- at the next element, where t tells whether it passes
   module _ {k : ℕ} (h : Passed test l k) (d : A) {a : A} {t : Bool} (m : k < length l) (here : get_or l k d ≡ a) (told : t ≡ test a) where
     next_decides : all test (drop k l) ≡ (t && all test (drop (k + 1) l))
@@ -53,29 +39,51 @@ and_failed later e = sym (ap (λ (c : Bool). c && later) e)
 pub and_passed : {b later r : Bool} → b ≡ true → r ≡ later → r ≡ (b && later)
 and_passed {later = later} e k = k ∙ sym (ap (λ (c : Bool). c && later) e)
 
+-- the same, where the result t of a call tells what the test is
+pub test_failed : {t b : Bool} (later : Bool) → t ≡ b → t ≡ false → false ≡ (b && later)
+test_failed later told e = and_failed later (sym told ∙ e)
+
+pub test_passed : {t b later r : Bool} → t ≡ b → t ≡ true → r ≡ later → r ≡ (b && later)
+test_passed told e k = and_passed (sym told ∙ e) k
+
 -- the words from a place to the end
 pub rest_lent : (at : ℕ) (ws : List ℕ) → take (length ws - at) (drop at ws) ≡ drop at ws
 rest_lent at ws = take_all (length ws - at) (drop at ws) (omega (arith, length-drop at ws))
 
--- ---- rows of w words, of which k have passed, and the next is lent as `size` words
-module _ {test : List ℕ → Bool} (w n : ℕ) (ws : List ℕ) {k : ℕ} (h : Passed test (chunks w n ws) k) where
-  module _ {size : ℕ} {t : Bool} (m : k < n) (wide : size ≡ w) (told : t ≡ test (take size (drop (w * k) ws))) where
-    row_told : t ≡ test (take w (drop (w * k) ws))
-    row_told = told ∙ ap (λ (j : ℕ). test (take j (drop (w * k) ws))) wide
+-- ---- rows of w words, of which `left` are left at the front of `rest`, and the next is `row`
+module _ (w later : ℕ) (row behind : List ℕ) {left : ℕ} {rest : List ℕ} (next : later + 1 ≡ left) (cut : rest ≡ row ++ behind) (wide : length row ≡ w) where
+  pub rows_fit : w * left ≤ length rest → w * later ≤ length behind
+  rows_fit room =
+      let e : w * left ≡ w * later + w = let more : w * suc later ≡ w * later + w = omega arith in ap (λ (k : ℕ). w * k) (omega (arith, next)) ∙ more in
+      omega (arith, e, room, wide, ap length cut ∙ length-append row behind)
 
-    row_here : get_or (chunks w n ws) k [] ≡ take w (drop (w * k) ws)
-    row_here = let e : 0 + w * k ≡ w * k = omega arith in chunk_at w n k 0 ws m ∙ ap (λ (j : ℕ). take w (drop j ws)) e
+  module _ (test : List ℕ → Bool) {t : Bool} (told : t ≡ test row) where
+    row_decides : all test (chunks w left rest) ≡ (t && all test (chunks w later behind))
+    unfolding all chunks
+    row_decides =
+        let one_more : left ≡ suc later = omega (arith, next) in
+        ap₂ (λ (k : ℕ) (ws : List ℕ). all test (chunks w k ws)) one_more cut
+        ∙ ap₂ (λ (a b : List ℕ). test a && all test (chunks w later b)) (take_at row behind w wide) (drop_at row behind w wide)
+        ∙ ap (λ (b : Bool). b && all test (chunks w later behind)) (sym told)
 
-    pub row_passed : t ≡ true → Passed test (chunks w n ws) (k + 1)
-    row_passed e = passed_one h [] (omega (arith, length_chunks w n ws)) row_here row_told e
+    module _ {whole : Bool} (decides : all test (chunks w left rest) ≡ whole) where
+      pub row_passed : t ≡ true → all test (chunks w later behind) ≡ whole
+      row_passed e = sym (row_decides ∙ ap (λ (b : Bool). b && all test (chunks w later behind)) e) ∙ decides
 
-    pub row_failed : t ≡ false → (later : Bool) → false ≡ (all test (chunks w n ws) && later)
-    row_failed e later = and_failed later (failed_one h [] (omega (arith, length_chunks w n ws)) row_here row_told e)
+      pub row_failed : t ≡ false → whole ≡ false
+      row_failed e = sym decides ∙ row_decides ∙ ap (λ (b : Bool). b && all test (chunks w later behind)) e
 
-  -- behind the last the words to the end are lent
-  pub rows_passed : {r : Bool} → k ≡ n → r ≡ zeros (take (length ws - w * k) (drop (w * k) ws)) → r ≡ rows_stored test w n ws
-  rows_passed e told =
-      and_passed (passed_all h (omega (arith, length_chunks w n ws))) (told ∙ ap zeros (rest_lent (w * k) ws ∙ ap (λ (j : ℕ). drop (w * j) ws) e))
+-- none is left
+pub rows_end : (test : List ℕ → Bool) (w left : ℕ) (rest : List ℕ) {whole : Bool} → all test (chunks w left rest) ≡ whole → left ≡ 0 → whole ≡ true
+unfolding all chunks
+rows_end test w left rest decides none = sym decides ∙ ap (λ (k : ℕ). all test (chunks w k rest)) none
+
+-- a row that is asked for where some are left is there
+pub rows_there : (w left : ℕ) {size : ℕ} (rest : List ℕ) → size ≡ w → w * left ≤ length rest → (0 < left → length rest < size) → left ≡ 0
+rows_there w zero rest wide room out = refl
+rows_there w (suc left) rest wide room out =
+    let e : w * suc left ≡ w * left + w = omega arith in
+    absurd (omega (arith, e, wide, room, out (omega arith)))
 
 -- ---- places from 0 on, of which k have passed
 module _ {test : ℕ → Bool} (n : ℕ) {k : ℕ} (h : Passed test (up_from 0 n) k) where

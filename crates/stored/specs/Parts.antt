@@ -1,6 +1,6 @@
 -- The test of a table's words part by part, as the code takes them. That all parts together tell what `stored` tells is proved (proofs/Whole).
-use Rattle.std.specs.Prelude.{Bool, true, false, cond, not, ◌&&◌, List, [], ◌∷◌, ℕ, ◌+◌, ◌*◌, ◌≤◌, leb, eqb, length, get_or, take, drop}
-use Rattle.std.proofs.Math.Option.{Option, none, some}
+use Rattle.std.specs.Prelude.{◌≡◌, Bool, true, false, cond, not, ◌&&◌, Option, None, Some, List, [], ◌∷◌, ℕ, ◌+◌, ◌*◌, ◌≤◌, leb, eqb, length, get_or, take, drop}
+use Rattle.std.proofs.Math.Option.{Option as Maybe, none, some}
 use Rattle.meaning.specs.declared.Limits.{Limits}
 use Rattle.meaning.specs.declared.Place.{Place}
 use Rattle.meaning.specs.Lists.{any, all, between, listed, distinct, chunks, up_from}
@@ -12,8 +12,6 @@ use Rattle.meaning.specs.Claims.{instance_most, plan_most}
 use Rattle.table.specs.Filled.{Bounded}
 use Rattle.ranges.specs.Ranges.{head_range}
 use Rattle.ranges.specs.Clashes.{items_in}
-use Rattle.stored.specs.declared.Loaded.{Loaded}
-use Rattle.stored.specs.declared.Loaded.TheVariants.{Entries, Unfit}
 
 -- limits for which every model in range has files short enough, so that no length need be tested
 pub record PrintRoom (m : Limits) : Type 0 where
@@ -29,6 +27,10 @@ zeros ws = all (between 0 0) ws
 unfoldable pub entries_stored : ℕ → List ℕ → Bool
 unfolding all distinct
 entries_stored n ws = between 1 (length ws) n && (all (between 1 65535) (take n ws) && distinct (take n ws)) && zeros (drop n ws)
+
+-- what a test of rows of one width answers, by what it tells of their words
+abbrev pub RowTest : (List ℕ → Bool → Type 0) → ℕ → (List ℕ → Bool) → Type 0
+RowTest answers width passes = (row : List ℕ) (r : Bool) → length row ≡ width → answers row r → r ≡ passes row
 
 -- so many rows that pass their test, and zeros behind them
 abbrev pub rows_stored : (List ℕ → Bool) → ℕ → ℕ → List ℕ → Bool
@@ -66,7 +68,7 @@ stack_stored most trucks loaded ws =
     all_within (stack_ranges trucks) (take 6 ws) && between 1 64 (get_or ws 7 0) && (eqb (get_or ws 6 0) loaded && leb (loaded + get_or ws 7 0) most)
 
 -- how many entries the loads of some rows hold, where each is a stack's and has a number that is not one of the `earlier` ones
-unfoldable pub entries_of : ℕ → ℕ → List ℕ → ℕ → List (List ℕ) → Option ℕ
+unfoldable pub entries_of : ℕ → ℕ → List ℕ → ℕ → List (List ℕ) → Maybe ℕ
 unfolding any all_within
 entries_of most trucks earlier loaded [] = some loaded
 entries_of most trucks earlier loaded (row ∷ rows) =
@@ -74,17 +76,17 @@ entries_of most trucks earlier loaded (row ∷ rows) =
     cond (stack_stored most trucks loaded row && not (listed (get_or row 0 0) earlier)) later none
 
 -- what is answered of the rows of the stacks
-abbrev pub loaded_by : Loaded → Option ℕ
-loaded_by (Entries n) = some n
-loaded_by Unfit = none
+abbrev pub loaded_by : Option ℕ → Maybe ℕ
+loaded_by (Some n) = some n
+loaded_by None = none
 
 -- there are as many words as entries
-abbrev pub LoadedWithin : ℕ → Loaded → Type 0
-LoadedWithin room (Entries n) = n ≤ room
-LoadedWithin room Unfit = Unit {0}
+abbrev pub LoadedWithin : ℕ → Option ℕ → Type 0
+LoadedWithin room (Some n) = n ≤ room
+LoadedWithin room None = Unit {0}
 
 -- the loads: item numbers as far as the stacks' loads go
-unfoldable pub loads_stored : ℕ → List ℕ → Option ℕ → Bool
+unfoldable pub loads_stored : ℕ → List ℕ → Maybe ℕ → Bool
 unfolding all
 loads_stored items ws none = false
 loads_stored items ws (some n) = all (between 1 items) (take n ws) && zeros (drop n ws)
@@ -110,7 +112,7 @@ abbrev pub loads_part : Limits → List ℕ → List ℕ
 loads_part m t = take m.loads (drop (loads_at m) t)
 
 -- no place is the lowest
-abbrev pub nowhere : Option Place → Bool
+abbrev pub nowhere : Maybe Place → Bool
 nowhere none = true
 nowhere (some q) = false
 

@@ -2,26 +2,24 @@
 // judge the lines of the files, part by part; no part is looked at whose length the parts before leave open.
 #![tactic(auto)]
 
-ghost use Rattle.std.specs.Prelude.{◌≡◌, ◌&&◌, [], ◌+◌, ◌*◌, ◌≤◌, length, get_or, take, drop};
+ghost use Rattle.std.specs.Prelude.{◌≡◌, ◌&&◌, Bool, List, ℕ, [], ◌+◌, ◌*◌, ◌≤◌, length, get_or, take, drop};
+ghost use Rattle.std.specs.Fn.{FnReturnsAt};
 ghost use Rattle.meaning.specs.Lists.{chunks};
 ghost use Rattle.meaning.specs.Write.{stored};
-ghost use Rattle.table.specs.Filled.{Room};
-ghost use Rattle.stored.specs.Parts.{PrintRoom, zeros, entries_stored, rows_stored, head_stored, item_stored, docks_stored, truck_stored};
+ghost use Rattle.stored.specs.Parts.{PrintRoom, zeros, entries_stored, RowTest, rows_stored, head_stored, item_stored, docks_stored, truck_stored};
 ghost use Rattle.stored.specs.Parts.{stack_stored, entries_of, loaded_by, LoadedWithin, loads_stored, CountsWithin, instance_stored, plan_stored};
 
 use meaning::Limits;
 use ranges::{
-    Clash, LAST_DAY, all_between, are_identifiers, head_number_in_range, is_repeated,
-    item_in_range, lowest_clash, stack_in_range, truck_in_range,
+    LAST_DAY, all_between, are_identifiers, head_number_in_range, is_repeated, item_in_range,
+    lowest_clash, stack_in_range, truck_in_range,
 };
 use table::layout::{
     BEHIND_DOCKS, DOCK_COUNTS, DOCKS, ITEM_COUNT, ITEM_WORDS, LOAD_COUNT, LOAD_FIRST, PLANT_DOCKS,
     PRODUCTS, STACK_COUNT, STACK_FIELDS, STACK_WORDS, SUPPLIER_DOCKS, SUPPLIERS, TRUCK_COUNT,
     TRUCK_WORDS,
 };
-use table::{
-    as_index, head_words, load_words, named_words, words_of_items, words_of_stacks, words_of_trucks,
-};
+use table::{NamedWords, named_words};
 
 // ---- words of one part
 
@@ -36,7 +34,7 @@ fn are_zero(words: &[u32]) -> bool
 fn entries_stored(count: u32, words: &[u32]) -> bool
     ensures { result ≡ entries_stored count words.now }
 {
-    let n = as_index(count);
+    let n = count as usize;
     if n == 0 {
         return false;
     }
@@ -53,48 +51,54 @@ fn head_stored(words: &[u32], limits: Limits) -> bool
     requires { PrintRoom limits × (length words.now ≡ 16) }
     ensures { result ≡ head_stored limits words.now }
 {
-    let mut place: usize = 0;
-    while place <= STACK_COUNT {
+    let behind = STACK_COUNT + 1;
+    for place in 0..behind {
         if !head_number_in_range(limits, place, words[place]) {
             return false;
         }
-        place += 1;
     }
-    are_zero(&words[place..])
+    are_zero(&words[behind..])
 }
 
 // ---- items and trucks
+
+// Whether so many rows of one width pass a test, and the words behind them are zero.
+fn rows_stored<F: Fn(&[u32]) -> bool>(words: &[u32], width: usize, count: usize, test: F) -> bool
+    requires room { width * count ≤ length words.now }
+    requires some { 1 ≤ width }
+    requires test { (row : _) → length row.now ≡ width → F.pre test row }
+    ensures { (passes : List ℕ → Bool) → RowTest (FnReturnsAt F.Fn test) width passes
+        → result ≡ rows_stored passes width count words.now }
+{
+    for row in words.chunks_exact(width).take(count) {
+        if !test(row) {
+            return false;
+        }
+    }
+    are_zero(&words[width * count..])
+}
 
 // Whether the rows of so many items are in range, and the words behind them zero.
 fn items_stored(words: &[u32], count: usize) -> bool
     requires { 16 * count ≤ length words.now }
     ensures { result ≡ rows_stored item_stored 16 count words.now }
 {
-    let mut k: usize = 0;
-    while k < count {
-        let first = ITEM_WORDS * k;
-        if !item_in_range(&words[first..first + ITEM_WORDS], LAST_DAY) {
-            return false;
-        }
-        k += 1;
-    }
-    are_zero(&words[ITEM_WORDS * k..])
+    rows_stored(words, ITEM_WORDS, count, |row| item_in_range(row, LAST_DAY))
 }
 
-// Whether the docks of so many suppliers are lists behind their counts, each in a row of its own, and the words of other suppliers zero.
+// Whether the docks of so many suppliers are lists behind their counts, each in a row of its own, and the words of other suppliers zero. (Not
+// by `rows_stored`: the test of a row takes the count too, which stands among other words.)
 fn docks_stored(suppliers: usize, counts: &[u32], rows: &[u32]) -> bool
     requires { (suppliers ≤ length counts.now) × (length rows.now ≡ 8 * length counts.now) }
     ensures { result ≡ docks_stored suppliers counts.now rows.now }
 {
-    let mut k: usize = 0;
-    while k < suppliers {
+    for k in 0..suppliers {
         let first = SUPPLIER_DOCKS * k;
         if !entries_stored(counts[k], &rows[first..first + SUPPLIER_DOCKS]) {
             return false;
         }
-        k += 1;
     }
-    are_zero(&counts[k..]) & are_zero(&rows[SUPPLIER_DOCKS * k..])
+    are_zero(&counts[suppliers..]) & are_zero(&rows[SUPPLIER_DOCKS * suppliers..])
 }
 
 // Whether 160 words are those of a truck's lines.
@@ -111,7 +115,7 @@ fn truck_stored(words: &[u32]) -> bool
     if !entries_stored(words[SUPPLIERS], &words[SUPPLIERS + 1..DOCK_COUNTS]) {
         return false;
     }
-    let suppliers = as_index(words[SUPPLIERS]);
+    let suppliers = words[SUPPLIERS] as usize;
     if !docks_stored(
         suppliers,
         &words[DOCK_COUNTS..DOCKS],
@@ -128,100 +132,83 @@ fn trucks_stored(words: &[u32], count: usize) -> bool
     requires { 160 * count ≤ length words.now }
     ensures { result ≡ rows_stored truck_stored 160 count words.now }
 {
-    let mut k: usize = 0;
-    while k < count {
-        let first = TRUCK_WORDS * k;
-        if !truck_stored(&words[first..first + TRUCK_WORDS]) {
-            return false;
-        }
-        k += 1;
-    }
-    are_zero(&words[TRUCK_WORDS * k..])
+    rows_stored(words, TRUCK_WORDS, count, truck_stored)
 }
 
 // ---- stacks and loads
-
-// How many entries the loads of all stacks hold, or that a row is not that of a stack.
-#[derive(Clone, Copy)]
-pub enum Loaded {
-    Entries(usize),
-    Unfit,
-}
 
 // Whether a row is in range and its load begins behind so many entries; all loads together hold at most `most`.
 fn stack_stored(row: &[u32], trucks: u32, loaded: usize, most: usize) -> bool
     requires { (length row.now ≡ 8) × (loaded ≤ 65536) }
     ensures { result ≡ stack_stored most trucks loaded row.now }
 {
-    let first = as_index(row[LOAD_FIRST]);
-    let count = as_index(row[LOAD_COUNT]);
+    let first = row[LOAD_FIRST] as usize;
+    let count = row[LOAD_COUNT] as usize;
     let follows = (first == loaded) & (loaded + count <= most);
     let in_range = stack_in_range(&row[0..STACK_FIELDS], trucks);
     in_range & ((1 <= count) & (count <= 64)) & follows
 }
 
-// The rows of so many stacks one after another: each is that of a stack, with a number of its own.
-fn loaded_by(words: &[u32], count: usize, trucks: u32, most: usize) -> Loaded
+// How many entries the loads of so many stacks hold, whose rows stand one after another. None where a row is not that of a stack, or has the
+// number of one before.
+fn loaded_by(words: &[u32], count: usize, trucks: u32, most: usize) -> Option<usize>
     requires { (8 * count ≤ length words.now) × (most ≤ 65536) }
     ensures { (loaded_by result ≡ entries_of most trucks [] 0 (chunks 8 count words.now)) × LoadedWithin most result }
 {
     let mut loaded: usize = 0;
-    let mut k: usize = 0;
-    while k < count {
+    for k in 0..count {
         let first = STACK_WORDS * k;
         if !stack_stored(&words[first..first + STACK_WORDS], trucks, loaded, most) {
-            return Loaded::Unfit;
+            return None;
         }
         if is_repeated(words, k, words[first]) {
-            return Loaded::Unfit;
+            return None;
         }
-        loaded += as_index(words[first + LOAD_COUNT]);
-        k += 1;
+        loaded += words[first + LOAD_COUNT] as usize;
     }
-    Loaded::Entries(loaded)
+    Some(loaded)
 }
 
 // Whether the loads are item numbers as far as the stacks' loads go, and zero behind them.
-fn loads_stored(loads: &[u32], loaded: Loaded, items: u32) -> bool
+fn loads_stored(loads: &[u32], loaded: Option<usize>, items: u32) -> bool
     requires { LoadedWithin (length loads.now) loaded }
     ensures { result ≡ loads_stored items loads.now (loaded_by loaded) }
 {
     match loaded {
-        Loaded::Entries(n) => all_between(&loads[0..n], 1, items) & are_zero(&loads[n..]),
-        Loaded::Unfit => false,
+        Some(n) => all_between(&loads[0..n], 1, items) & are_zero(&loads[n..]),
+        None => false,
     }
 }
 
 // ---- the table
 
 // Whether items and trucks are those of an instance that can be read.
-fn instance_stored(t: &[u32], limits: Limits) -> bool
-    requires { Room limits t.now × CountsWithin limits t.now }
-    ensures { result ≡ instance_stored limits t.now }
+fn instance_stored(table: NamedWords<'_>) -> bool
+    requires { CountsWithin table.limits table.words.now }
+    ensures { result ≡ instance_stored table.entry.limits table.entry.words.now }
 {
-    let items = t[ITEM_COUNT];
-    let words = words_of_items(t, limits);
-    if !items_stored(words, as_index(items)) {
+    let items = table.words[ITEM_COUNT];
+    let trucks = table.words[TRUCK_COUNT];
+    let words = table.items();
+    if !items_stored(words, items as usize) {
         return false;
     }
-    if !trucks_stored(words_of_trucks(t, limits), as_index(t[TRUCK_COUNT])) {
+    if !trucks_stored(table.trucks(), trucks as usize) {
         return false;
     }
-    match lowest_clash(words, items) {
-        Clash::Nowhere => true,
-        Clash::Between(_, _) => false,
-    }
+    lowest_clash(words, items).is_none()
 }
 
 // Whether stacks and loads are those of a plan that can be read.
-fn plan_stored(t: &[u32], limits: Limits) -> bool
-    requires { Room limits t.now × CountsWithin limits t.now }
-    ensures { result ≡ plan_stored limits t.now }
+fn plan_stored(table: NamedWords<'_>) -> bool
+    requires { CountsWithin table.limits table.words.now }
+    ensures { result ≡ plan_stored table.entry.limits table.entry.words.now }
 {
-    let stacks = as_index(t[STACK_COUNT]);
-    let words = words_of_stacks(t, limits);
-    let loaded = loaded_by(words, stacks, t[TRUCK_COUNT], limits.loads);
-    loads_stored(load_words(t, limits), loaded, t[ITEM_COUNT])
+    let stacks = table.words[STACK_COUNT] as usize;
+    let trucks = table.words[TRUCK_COUNT];
+    let words = table.stacks();
+    let loaded = loaded_by(words, stacks, trucks, table.limits.loads);
+    loads_stored(table.loads(), loaded, table.words[ITEM_COUNT])
         & are_zero(&words[STACK_WORDS * stacks..])
 }
 
@@ -233,11 +220,12 @@ pub fn is_stored(t: &[u32], limits: Limits) -> bool
     if t.len() < named_words(limits) {
         return false;
     }
-    if !head_stored(head_words(t, limits), limits) {
+    let table = NamedWords { words: t, limits };
+    if !head_stored(table.head(), limits) {
         return false;
     }
-    if !instance_stored(t, limits) {
+    if !instance_stored(table) {
         return false;
     }
-    plan_stored(t, limits)
+    plan_stored(table)
 }

@@ -1,37 +1,40 @@
--- The place of a number in a list, looked for from the front, and whether it is listed, from the back.
-use mathlib.Core.Path.{◌≡◌, refl, sym}
-use mathlib.Core.Bool.{Bool, false, ◌||◌}
-use mathlib.Core.List.{List}
-use Prim.Native.Nat.{ℕ, ◌+◌, ◌-◌, ◌≤◌, ◌<◌}
-use native.Mathlib.Omega.{arith}
-use native.Mathlib.Numerals.{add-one}
-use borrow.Author.Tests.{eq-eqb, ne_eqb}
-use lib.Dec.{eqb}
-use lib.ListN.{length, get_or, drop, drop_of_length-le}
-use lib.Seq.{drop-cons}
-use Rattle.meaning.specs.Lists.{any, listed, order_from}
-use Rattle.meaning.proofs.Lists.{drop_back}
+-- The place of a number in a list, from 1, and whether it is listed, by the places of the list.
+use Rattle.std.proofs.Common.{◌≡◌, refl, sym, ◌∙◌, ap, Bool, true, false, cond, ◌||◌, List, [], ◌∷◌, ℕ, suc, ◌+◌, ◌<◌, length, get_or, take, nat_eq, Option, Some, None, position, add-one}
+use Rattle.std.specs.List.{position_from}
+use Rattle.std.proofs.lemmas.Iterator.Adapters.{position_from-zero}
+use Rattle.std.proofs.Math.Seq.{take-suc}
+use Rattle.meaning.specs.Lists.{any, listed, order_from, order_in}
+use Rattle.meaning.proofs.Lists.{any_append}
 
--- with i numbers passed: the next is the one, the next is another, or none is left
-module _ (n : ℕ) (l : List ℕ) (i : ℕ) where
-  pub order_found : i < length l → get_or l i 0 ≡ n → order_from (i + 1) n (drop i l) ≡ i + 1
-  unfolding order_from
-  order_found h e = rw (drop-cons l i 0 h, eq-eqb n (get_or l i 0) (sym e)) refl
+-- a place from 0 as a place from 1, and 0 for none
+abbrev pub order_of : Option ℕ → ℕ
+order_of None = 0
+order_of (Some place) = place + 1
 
-  pub order_passed : i < length l → (get_or l i 0 ≡ n → ⊥) → order_from (i + 1) n (drop i l) ≡ order_from (i + 1 + 1) n (drop (i + 1) l)
-  unfolding order_from
-  order_passed h e = rw (drop-cons l i 0 h, ne_eqb n (get_or l i 0) (λ q. e (sym q)), add-one (i + 1), add-one i) refl
+order_places : (n k : ℕ) (l : List ℕ) → order_from (k + 1) n l ≡ order_of (position_from (nat_eq n) k l)
+unfolding order_from
+order_places n k [] = refl
+order_places n k (m ∷ l) =
+    let rest : order_from (suc (k + 1)) n l ≡ order_of (position_from (nat_eq n) (k + 1) l) = rw (add-one (k + 1)) at (order_places n (k + 1) l) in
+    elim (nat_eq n m) as (λ b. cond b (k + 1) (order_from (suc (k + 1)) n l) ≡ order_of (cond b (Some k) (position_from (nat_eq n) (k + 1) l))) [
+      | true ↦ refl
+      | false ↦ rest
+    ]
 
-  pub order_none : length l ≤ i → order_from (i + 1) n (drop i l) ≡ 0
-  unfolding order_from
-  order_none h = rw (drop_of_length-le l h) refl
+-- the order is one more than the place that is found
+pub order_place : (n : ℕ) (l : List ℕ) → order_in l n ≡ order_of (position (nat_eq n) l)
+order_place n l = order_places n 0 l ∙ ap order_of (sym (position_from-zero (nat_eq n) l))
 
--- the numbers from an index on, and the number before them; and none behind the last
-pub listed_back : (l : List ℕ) (i : ℕ) → 0 < i → i ≤ length l → (n : ℕ) {rest : Bool} → rest ≡ listed n (drop i l)
-    → eqb n (get_or l (i - 1) 0) || rest ≡ listed n (drop (i - 1) l)
+or_false : (b : Bool) → (b || false) ≡ b
+or_false = elim [ true ↦ refl | false ↦ refl ]
+
+-- one place more
+pub listed_more : (n : ℕ) (l : List ℕ) (i : ℕ) → i < length l → listed n (take (i + 1) l) ≡ (listed n (take i l) || nat_eq n (get_or l i 0))
 unfolding any
-listed_back l i some h n e = rw (drop_back l i 0 some h, e) refl
+listed_more n l i h =
+    let last : listed n (get_or l i 0 ∷ []) ≡ nat_eq n (get_or l i 0) = or_false (nat_eq n (get_or l i 0)) in
+    rw (add-one i, take-suc l i 0 h) (any_append (nat_eq n) (take i l) (get_or l i 0 ∷ []) ∙ ap (λ b. listed n (take i l) || b) last)
 
-pub listed_end : (l : List ℕ) (n : ℕ) → false ≡ listed n (drop (length l) l)
+pub listed_none : (n : ℕ) → false ≡ listed n []
 unfolding any
-listed_end l n = let h : length l ≤ length l = omega arith in rw (drop_of_length-le l h) refl
+listed_none n = refl

@@ -1,20 +1,25 @@
 -- Bytes from an index on: what the byte at the index decides of a count and of a value after its key.
-use mathlib.Core.Path.{◌≡◌, refl, sym}
+use mathlib.Core.Path.{◌≡◌, refl, sym, ap}
 use mathlib.Core.Logic.{◌↔◌}
-use mathlib.Core.Bool.{Bool, true, false, cond}
+use mathlib.Core.Bool.{Bool, true, false, cond, ◌&&◌}
 use mathlib.Core.Option.{none, some}
 use mathlib.Core.List.{List, [], ◌∷◌}
 use Prim.Native.Nat.{ℕ, zero, suc, ◌+◌, ◌-◌, ◌≤◌, ◌<◌}
 use native.Mathlib.Nat.{add-zero}
 use native.Mathlib.Omega.{arith}
-use borrow.Author.Tests.{eqb-false, eq-eqb, ne_eqb}
+use denote.Ref.{Bor}
+use borrow.Author.Tests.{ltb-false, eqb-true, eqb-false, eq-eqb, ne_eqb}
 use lib.Dec.{eqb, ltb}
 use lib.ListN.{length, get_or, take, drop, length-drop, drop_of_length-le}
 use lib.Seq.{take_all}
+use lib.Pointwise.{pointwise}
+use Rattle.std.specs.Prelude.{Option, None, Some, MatchOption, unwrap_or, position}
+use Rattle.std.specs.List.{position_or_len}
+use Rattle.std.proofs.lemmas.List.Recursion.{is_position_or_len}
 use Rattle.meaning.specs.Text.{count_before, value_after}
 use Rattle.meaning.proofs.Tests.{or_false, same_test, lt_reads, iff_trans, iff_sym}
 use Rattle.meaning.proofs.Lists.{drop_next}
-use Rattle.text.specs.Words.{one_of}
+use Rattle.text.specs.Words.{lent, one_of}
 
 -- all that is left of some bytes
 pub take_rest : (bs : List ℕ) (i : ℕ) → take (length bs - i) (drop i bs) ≡ drop i bs
@@ -36,7 +41,7 @@ pub count_past : (c : ℕ) (bs : List ℕ) (i n : ℕ) → i + n ≤ length bs �
 count_past c bs i zero h e = simp add-zero (omega arith)
 count_past c bs i (suc zero) h e = omega (arith, (count_at c bs i (omega arith)).1 (eqb-false _ _ e))
 count_past c bs i (suc (suc n)) h e =
-    let both = (or_false _ _).0 e in
+    let both = (or_false (one_of c bs i (suc n)) (eqb (get_or bs (i + suc n) 0) c)).0 e in
     let next : i + suc n + 1 ≡ i + suc (suc n) = omega arith in
     omega (arith, count_past c bs i (suc n) (omega arith) both.0, rw next at ((count_at c bs (i + suc n) (omega arith)).1 (eqb-false _ _ both.1)))
 
@@ -48,6 +53,19 @@ count_within c (b ∷ bs) = go (eqb b c) (count_within c bs)
     go : (t : Bool) → count_before c bs ≤ length bs → cond t 0 (suc (count_before c bs)) ≤ suc (length bs)
     go true h = omega arith
     go false h = omega arith
+
+-- the library's search for the byte stops there
+pub count_is : (c : ℕ) (bs : List ℕ) → count_before c bs ≡ position_or_len (λ b. eqb b c) bs
+unfolding count_before
+count_is c = is_position_or_len (count_before c) (λ b. eqb b c) refl (λ b bs. let more : suc (count_before c bs) ≡ 1 + count_before c bs = omega arith in ap (λ n. cond (eqb b c) 0 n) more)
+
+pub found_or_end : (c : ℕ) (bs : List ℕ) {r : Option ℕ} → r ≡ position (λ b. eqb b c) bs → unwrap_or r (length bs) ≡ count_before c bs
+unfolding count_before
+found_or_end c bs e = rw (e, count_is c bs) (go (position_or_len (λ b. eqb b c) bs) (ltb (position_or_len (λ b. eqb b c) bs) (length bs)) refl (rw count_is at (count_within c bs)))
+  where
+    go : (n : ℕ) (t : Bool) → ltb n (length bs) ≡ t → n ≤ length bs → unwrap_or (cond t (Some n) None) (length bs) ≡ n
+    go n true p h = refl
+    go n false p h = omega (arith, ltb-false n (length bs) p)
 
 -- where the byte's index was counted from another index on: the bytes between, and whether it is there
 module _ (c : ℕ) (bs : List ℕ) (from end : ℕ) (found : end ≡ from + count_before c (drop from bs)) where
@@ -64,26 +82,24 @@ module _ (c : ℕ) (bs : List ℕ) (from end : ℕ) (found : end ≡ from + coun
   found_within h = omega (arith, count_within c (drop from bs), length-drop from bs)
 
 -- ---- the value after a key
-pub value_at : (key line : List ℕ) (i : ℕ) → i < length key → i < length line
-    → (get_or line i 0 ≡ get_or key i 0 → value_after (drop i key) (drop i line) ≡ value_after (drop (i + 1) key) (drop (i + 1) line))
-    × ((get_or line i 0 ≡ get_or key i 0 → ⊥) → value_after (drop i key) (drop i line) ≡ none)
+after_key : (key line : List ℕ) → value_after key line ≡ cond (pointwise eqb (take (length key) line) key) (some (drop (length key) line)) none
 unfolding value_after
-value_at key line i h k = (
-  (λ e. rw (drop_next key i 0, drop_next line i 0) (simp (eq-eqb _ _ (sym e)))),
-  (λ f. rw (drop_next key i 0, drop_next line i 0) (simp (ne_eqb (get_or key i 0) (get_or line i 0) (λ e. f (sym e))))),
-)
-
-pub value_end : (key line : List ℕ) (i : ℕ) → i ≡ length key → value_after (drop i key) (drop i line) ≡ some (drop (length key) line)
-unfolding value_after
-value_end key line i e = let h : length key ≤ i = omega arith in rw (drop_of_length-le key h, e)
-
--- a line that is shorter than the key has no value
-pub value_short : (key line : List ℕ) → length line < length key → value_after key line ≡ none
-unfolding value_after
-value_short [] line h = absurd (omega arith)
-value_short (k ∷ key) [] h = refl
-value_short (k ∷ key) (b ∷ line) h = go (eqb k b) (value_short key line (omega arith))
+after_key [] line = refl
+after_key (k ∷ key) [] = refl
+after_key (k ∷ key) (b ∷ line) = go (eqb k b) (eqb b k) refl refl (after_key key line)
   where
-    go : (t : Bool) → value_after key line ≡ none → cond t (value_after key line) none ≡ none
-    go true e = e
-    go false e = refl
+    go : (t u : Bool) → eqb k b ≡ t → eqb b k ≡ u
+        → value_after key line ≡ cond (pointwise eqb (take (length key) line) key) (some (drop (length key) line)) none
+        → cond t (value_after key line) none ≡ cond (u && pointwise eqb (take (length key) line) key) (some (drop (length key) line)) none
+    go true true p q rec = rec
+    go false false p q rec = refl
+    go true false p q rec = absurd (eqb-false b k q (sym (eqb-true k b p)))
+    go false true p q rec = absurd (eqb-false k b p (sym (eqb-true b k q)))
+
+-- what the library answers where it takes the key off the line's front
+pub key_off : (key line : List ℕ) (r : Option (Bor (List ℕ)))
+    → MatchOption r (pointwise eqb (take (length key) line) key ≡ false)
+    (λ x. (pointwise eqb (take (length key) line) key ≡ true) × (x.now ≡ drop (length key) line) × (length x.now + length key ≡ length line))
+    → lent r ≡ value_after key line
+key_off key line None e = sym (rw e at (after_key key line))
+key_off key line (Some x) e = rw e.1 (sym (rw e.0 at (after_key key line)))

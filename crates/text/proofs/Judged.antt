@@ -1,19 +1,19 @@
 -- What an answer of `parse_line` tells its caller: the numbers and words of the line, and what the line is to a form.
-use mathlib.Core.Path.{◌≡◌, refl, ap, ◌∙◌}
+use mathlib.Core.Path.{◌≡◌, refl, sym, ap, ◌∙◌}
 use mathlib.Core.Bool.{Bool, true, false, cond}
-use mathlib.Core.Option.{Option, none, some}
+use mathlib.Core.Option.{Option as Maybe, none, some}
 use mathlib.Core.List.{List, [], ◌∷◌, ◌++◌, map}
 use Prim.Native.Nat.{ℕ, zero, suc, ◌+◌, ◌≤◌, ◌<◌}
 use native.Mathlib.Omega.{arith}
 use lib.Dec.{ltb}
 use lib.ListN.{length, take, drop, length-map}
 use lib.Seq.{sets, sets-eq}
+use Rattle.std.specs.Prelude.{None, Some}
 use Rattle.meaning.specs.Lists.{between}
 use Rattle.meaning.specs.Text.{bytes, count_before, number, numbers, and_numbers, comma_parts, value_after, numbers_of, line_numbers}
 use Rattle.meaning.specs.Text.{Form, entries, bad_form, bad_range, judged_line, take_line}
 use Rattle.meaning.proofs.Tests.{lt_reads, between_reads}
-use Rattle.text.specs.declared.ParsedNumbers.TheVariants.{Count, Malformed as NoNumbers}
-use Rattle.text.specs.declared.ParsedLine.TheVariants.{Next, WrongForm}
+use Rattle.text.specs.declared.ParsedLine.{ParsedLine}
 use Rattle.text.specs.Words.{word, parsed_numbers, line_answer, parsed_line, onto_words, leading, value_words, line_words}
 
 -- ---- where all parts are numbers and there is room, each number is stored as a word
@@ -22,7 +22,7 @@ unfolding numbers and_numbers leading onto_words
 leading_all room [] ns e h = let none_left : ns ≡ [] = cc in rw none_left
 leading_all room (part ∷ parts) ns e h = go room (number part) (numbers parts) refl refl e h (λ r ms. leading_all r parts ms)
   where
-    go : (r : ℕ) (o : Option ℕ) (os : Option (List ℕ)) → number part ≡ o → numbers parts ≡ os → and_numbers o os ≡ some ns → length ns ≤ r
+    go : (r : ℕ) (o : Maybe ℕ) (os : Maybe (List ℕ)) → number part ≡ o → numbers parts ≡ os → and_numbers o os ≡ some ns → length ns ≤ r
         → ((r : ℕ) (ms : List ℕ) → numbers parts ≡ some ms → length ms ≤ r → leading r parts ≡ map word ms) → leading r (part ∷ parts) ≡ map word ns
     go r none os p q e h rec = cc
     go r (some n) none p q e h rec = cc
@@ -32,14 +32,10 @@ leading_all room (part ∷ parts) ns e h = go room (number part) (numbers parts)
         let size = ap length same in
         rw (p, same) (ap (λ (ws : List ℕ). word n ∷ ws) (rec r ms q (omega arith)))
 
-value_words_lem : (room : ℕ) (o : Option (List ℕ)) (ns : List ℕ) → numbers_of o ≡ some ns → length ns ≤ room → value_words room o ≡ map word ns
+value_words_lem : (room : ℕ) (o : Maybe (List ℕ)) (ns : List ℕ) → numbers_of o ≡ some ns → length ns ≤ room → value_words room o ≡ map word ns
 unfolding numbers_of value_words
 value_words_lem room none ns e h = cc
 value_words_lem room (some value) ns e h = leading_all room (comma_parts value) ns e h
-
--- a refusal names no next line
-not_next : {A : Type 0} (c n : ℕ) → WrongForm ≡ Next c n → A
-not_next c n e = let z : ◌≡◌ {A = ℕ} 0 1 = cc in absurd (omega arith)
 
 -- ---- a line that was taken: where the next one begins, and its numbers, which are stored as words
 pub record LineStored (key : List ℕ) (least most at : ℕ) (bs : List ℕ) (c n : ℕ) : Type 0 where
@@ -56,27 +52,28 @@ pub record LineStored (key : List ℕ) (least most at : ℕ) (bs : List ℕ) (c 
   pub size : length (line_words key most bs) ≡ n
 
 -- an answer that names the next line names the count, which is in range
-next_reads : (least most end c n : ℕ) (ns : List ℕ) → line_answer end (parsed_numbers least most (some ns)) ≡ Next c n
+next_reads : (least most end c n : ℕ) (ns : List ℕ) → line_answer end (parsed_numbers least most (some ns)) ≡ Some (record { next = c; count = n })
     → (least ≤ n) × (n ≤ most) × (length ns ≡ n) × (c ≡ end + 1)
 unfolding line_answer parsed_numbers
 next_reads least most end c n ns e = go (between least most (length ns)) refl e
   where
-    go : (t : Bool) → between least most (length ns) ≡ t → line_answer end (cond t (Count (length ns)) NoNumbers) ≡ Next c n
+    go : (t : Bool) → between least most (length ns) ≡ t → line_answer end (cond t (Some (length ns)) None) ≡ Some (record { next = c; count = n })
         → (least ≤ n) × (n ≤ most) × (length ns ≡ n) × (c ≡ end + 1)
     go true p e =
         let range = (between_reads least most (length ns)).0 p in
-        let many : length ns ≡ n = cc in
-        (omega arith, omega arith, many, cc)
-    go false p e = not_next c n e
+        let same : ◌≡◌ {A = ParsedLine} (record { next = end + 1; count = length ns }) (record { next = c; count = n }) = cc in
+        let many : length ns ≡ n = ap (λ (l : ParsedLine). l.count) same in
+        (omega arith, omega arith, many, sym (ap (λ (l : ParsedLine). l.next) same))
+    go false p e = cc
 
-pub line_stored_lem : (key : List ℕ) (least most at : ℕ) (bs : List ℕ) (c n : ℕ) → parsed_line key least most at bs ≡ Next c n → LineStored key least most at bs c n
+pub line_stored_lem : (key : List ℕ) (least most at : ℕ) (bs : List ℕ) (c n : ℕ) → parsed_line key least most at bs ≡ Some (record { next = c; count = n }) → LineStored key least most at bs c n
 unfolding parsed_line line_words line_answer parsed_numbers
 line_stored_lem key least most at bs c n e = go (ltb (count_before 10 bs) (length bs)) (numbers_of (value_after key (take (count_before 10 bs) bs))) refl refl e
   where
-    go : (t : Bool) (o : Option (List ℕ)) → ltb (count_before 10 bs) (length bs) ≡ t → numbers_of (value_after key (take (count_before 10 bs) bs)) ≡ o
-        → cond t (line_answer (at + count_before 10 bs) (parsed_numbers least most o)) WrongForm ≡ Next c n → LineStored key least most at bs c n
-    go false o p q e = not_next c n e
-    go true none p q e = not_next c n e
+    go : (t : Bool) (o : Maybe (List ℕ)) → ltb (count_before 10 bs) (length bs) ≡ t → numbers_of (value_after key (take (count_before 10 bs) bs)) ≡ o
+        → cond t (line_answer (at + count_before 10 bs) (parsed_numbers least most o)) None ≡ Some (record { next = c; count = n }) → LineStored key least most at bs c n
+    go false o p q e = cc
+    go true none p q e = cc
     go true (some ns) p q e =
         let there = (lt_reads (count_before 10 bs) (length bs)).0 p in
         let k = next_reads least most (at + count_before 10 bs) c n ns e in
@@ -104,17 +101,17 @@ words_in_front {n = n} out s =
 
 -- ---- what the line is to a form with this key and these counts
 module _ (f : Form) {key : List ℕ} {least most : ℕ} (same_key : bytes f.key ≡ key) (same-least : f.least ≡ least) (same-most : f.most ≡ most) (bs : List ℕ) where
-  pub line_refused : (at : ℕ) → parsed_line key least most at bs ≡ WrongForm → take_line f bs ≡ bad_form
+  pub line_refused : (at : ℕ) → parsed_line key least most at bs ≡ None → take_line f bs ≡ bad_form
   unfolding parsed_line line_answer parsed_numbers take_line judged_line line_numbers
   line_refused at e = rw same_key (go (ltb (count_before 10 bs) (length bs)) (numbers_of (value_after key (take (count_before 10 bs) bs))) e)
     where
-      go : (t : Bool) (o : Option (List ℕ)) → cond t (line_answer (at + count_before 10 bs) (parsed_numbers least most o)) WrongForm ≡ WrongForm
+      go : (t : Bool) (o : Maybe (List ℕ)) → cond t (line_answer (at + count_before 10 bs) (parsed_numbers least most o)) None ≡ None
           → cond t (judged_line f (drop (suc (count_before 10 bs)) bs) o) bad_form ≡ bad_form
       go false o e = refl
       go true none e = refl
       go true (some ns) e = rw (same-least, same-most) (counted (between least most (length ns)) e)
         where
-          counted : (t : Bool) → line_answer (at + count_before 10 bs) (cond t (Count (length ns)) NoNumbers) ≡ WrongForm
+          counted : (t : Bool) → line_answer (at + count_before 10 bs) (cond t (Some (length ns)) None) ≡ None
               → cond t (cond (f.fits ns) (entries ns (drop (suc (count_before 10 bs)) bs)) bad_range) bad_form ≡ bad_form
           counted true e = cc
           counted false e = refl

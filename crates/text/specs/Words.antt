@@ -1,15 +1,12 @@
 -- What the functions of this crate answer and store, in the words of the meaning.
-use Rattle.std.specs.Prelude.{Bool, false, cond, ◌||◌, List, [], ◌∷◌, ℕ, zero, suc, ◌+◌, min, eqb, ltb, length, get_or, take}
-use Rattle.std.proofs.Math.Option.{Option, none, some}
+use denote.Ref.{Bor}
+use Rattle.std.specs.Prelude.{Bool, false, cond, ◌||◌, Option, None, Some, List, [], ◌∷◌, ℕ, zero, suc, ◌+◌, min, eqb, ltb, length, get_or, take}
+use Rattle.std.proofs.Math.Option.{Option as Maybe, none, some}
 use Rattle.meaning.specs.Lists.{between}
 use Rattle.meaning.specs.Text.{number, comma_parts, numbers_of, value_after, count_before}
 use Rattle.meaning.specs.Table.{largest_word}
-use Rattle.text.specs.declared.Parsed.{Parsed}
-use Rattle.text.specs.declared.Parsed.TheVariants.{Word, Malformed}
-use Rattle.text.specs.declared.ParsedNumbers.{ParsedNumbers}
-use Rattle.text.specs.declared.ParsedNumbers.TheVariants.{Count, Malformed as NoNumbers}
+use Rattle.text.specs.declared.ParsedNumber.{ParsedNumber}
 use Rattle.text.specs.declared.ParsedLine.{ParsedLine}
-use Rattle.text.specs.declared.ParsedLine.TheVariants.{Next, WrongForm}
 
 -- a number as a 32-bit word; the largest word stands for every number that does not fit
 abbrev pub word : ℕ → ℕ
@@ -22,40 +19,45 @@ one_of c bs i zero = false
 one_of c bs i (suc zero) = eqb (get_or bs i 0) c
 one_of c bs i (suc (suc n)) = one_of c bs i (suc n) || eqb (get_or bs (i + suc n) 0) c
 
--- of a part that ends before the place `end` and is a number, or none
-unfoldable pub parsed_number : ℕ → Option ℕ → Parsed
-parsed_number end none = Malformed
-parsed_number end (some n) = Word (word n) end
+-- the bytes that are lent, if any are
+abbrev pub lent : Option (Bor (List ℕ)) → Maybe (List ℕ)
+lent None = none
+lent (Some part) = some part.now
+
+-- of a part of so many bytes that is a number, or none
+unfoldable pub parsed_number : ℕ → Maybe ℕ → Option ParsedNumber
+parsed_number len none = None
+parsed_number len (some n) = Some (record { as_word = word n; len = len })
 
 -- the bytes before the first comma
 abbrev pub first_part : List ℕ → List ℕ
 first_part bs = take (count_before 44 bs) bs
 
--- of the first part of some bytes, which begin at the place `from` of their value
-unfoldable pub parsed_part : ℕ → List ℕ → Parsed
+-- of the first part of some bytes
+unfoldable pub parsed_part : List ℕ → Option ParsedNumber
 unfolding parsed_number number count_before
-parsed_part from bs = parsed_number (from + count_before 44 bs) (number (first_part bs))
+parsed_part bs = parsed_number (count_before 44 bs) (number (first_part bs))
 
--- of numbers that are to be `least` to `most`
-unfoldable pub parsed_numbers : ℕ → ℕ → Option (List ℕ) → ParsedNumbers
-parsed_numbers least most none = NoNumbers
-parsed_numbers least most (some ns) = cond (between least most (length ns)) (Count (length ns)) NoNumbers
+-- of numbers that are to be `least` to `most`: how many they are
+unfoldable pub parsed_numbers : ℕ → ℕ → Maybe (List ℕ) → Option ℕ
+parsed_numbers least most none = None
+parsed_numbers least most (some ns) = cond (between least most (length ns)) (Some (length ns)) None
 
 -- of a line that ends before the byte `end`
-unfoldable pub line_answer : ℕ → ParsedNumbers → ParsedLine
-line_answer end (Count n) = Next (end + 1) n
-line_answer end NoNumbers = WrongForm
+unfoldable pub line_answer : ℕ → Option ℕ → Option ParsedLine
+line_answer end (Some n) = Some (record { next = end + 1; count = n })
+line_answer end None = None
 
 -- of the first line of some bytes, which begin at the place `at` of their file
-unfoldable pub parsed_line : List ℕ → ℕ → ℕ → ℕ → List ℕ → ParsedLine
+unfoldable pub parsed_line : List ℕ → ℕ → ℕ → ℕ → List ℕ → Option ParsedLine
 unfolding line_answer parsed_numbers numbers_of value_after count_before
 parsed_line key least most at bs =
     let end = count_before 10 bs in
-    cond (ltb end (length bs)) (line_answer (at + end) (parsed_numbers least most (numbers_of (value_after key (take end bs))))) WrongForm
+    cond (ltb end (length bs)) (line_answer (at + end) (parsed_numbers least most (numbers_of (value_after key (take end bs))))) None
 
 -- ---- the words that are stored
 -- one word more at the front, where there is a number
-unfoldable pub onto_words : Option ℕ → List ℕ → List ℕ
+unfoldable pub onto_words : Maybe ℕ → List ℕ → List ℕ
 onto_words none ws = []
 onto_words (some n) ws = word n ∷ ws
 
@@ -67,7 +69,7 @@ leading zero (part ∷ parts) = []
 leading (suc room) (part ∷ parts) = onto_words (number part) (leading room parts)
 
 -- of a value, where there is one
-unfoldable pub value_words : ℕ → Option (List ℕ) → List ℕ
+unfoldable pub value_words : ℕ → Maybe (List ℕ) → List ℕ
 unfolding leading comma_parts
 value_words room none = []
 value_words room (some value) = leading room (comma_parts value)

@@ -11,9 +11,10 @@ use lib.Seq.{take_at, drop_at, take_all}
 use Rattle.meaning.specs.Lists.{padded}
 use Rattle.meaning.specs.Reader.{Reader, onward, times}
 use Rattle.meaning.proofs.Lists.{flat_map_more}
-use Rattle.lines.specs.declared.Progress.{Progress}
-use Rattle.lines.specs.Progress.{reached, resumed, Going, WithinFile, ReadInto}
-use Rattle.lines.proofs.Follow.{no_refusal, more, times_first, times_next, times_done}
+use Rattle.std.specs.Prelude.{Err}
+use Rattle.lines.specs.declared.LineRefused.{LineRefused}
+use Rattle.lines.specs.Progress.{Progress, reached, resumed, Going, WithinFile, ReadInto}
+use Rattle.lines.proofs.Follow.{onward_refused, no_refusal, more, times_first, times_next, times_done}
 use Rattle.trucks.specs.Rows.{rows}
 
 -- ---- words in front and zeros behind them
@@ -94,6 +95,19 @@ module _ {A : Type 0} {file : List ℕ} {R : Reader A} {Holds : ℕ → List A �
       says =
           let e : n - k ≡ suc (n - (k + 1)) = omega arith in
           sym (times_next R file s.values a.value (n - (k + 1)) q r a.says) ∙ rw e at s.says;
+    }
+
+    -- a refusal within ends the reading
+    pub repeat_refused : {w : A → List ℕ} {e : LineRefused} {run : List ℕ} → k < n → ReadInto file R w q (Err e) run
+        → {words : List A → List ℕ} {out' : List ℕ} → ReadInto file (times n R) words p (Err e) out'
+    repeat_refused {e = e} h a = record {
+      value = s.values ++ a.value ∷ [];
+      says =
+          let m = n - (k + 1) in
+          let one : n - k ≡ suc m = omega arith in
+          sym (onward_refused e (more R m)) ∙ sym (times_next R file s.values a.value m q (Err e) a.says) ∙ rw one at s.says;
+      holds = λ g. absurd g;
+      within = a.within;
     }
 
     pub repeat_done : (words : List A → List ℕ) → n ≤ k → ((vs : List A) → Holds k vs out → out ≡ words vs) → ReadInto file (times n R) words p q out

@@ -1,14 +1,16 @@
 -- Loops along a load: what is still to come, or what is done, is the rest of the list from a place on.
 use mathlib.Core.Path.{◌≡◌, refl, sym, ap, ◌∙◌}
-use mathlib.Core.Bool.{Bool, true, false, not}
+use mathlib.Core.Bool.{Bool, true, false}
 use mathlib.Core.List.{List, ◌∷◌, map}
 use Prim.Native.Nat.{ℕ, ◌+◌, ◌-◌, ◌*◌, ◌≤◌, ◌<◌}
 use native.Mathlib.Nat.{le_trans, mul-le-mul_left}
 use native.Mathlib.Numerals.{add-one}
 use native.Mathlib.Omega.{arith}
-use borrow.Author.Tests.{leb-true, eq-eqb, ne_eqb, not-true, not-false}
+use borrow.Author.Tests.{leb-true, eq-eqb, ne_eqb}
 use lib.Dec.{leb, eqb}
-use lib.ListN.{length, get_or, drop, drop_of_length-le}
+use lib.ListN.{length, get_or, take, drop, drop_of_length-le}
+use Rattle.std.proofs.lemmas.List.{length-drop, get_or-drop}
+use Rattle.std.proofs.Math.Seq.{take-length}
 use Rattle.meaning.specs.Lists.{all, any, sum, dedup, listed, order_in, up_from}
 use Rattle.meaning.specs.Model.{Instance, item, truck_numbered, IG}
 use Rattle.meaning.specs.Measures.{plant_docks_of}
@@ -17,6 +19,10 @@ use Rattle.meaning.proofs.Lists.{all_reads, drop_next, Down, down_start, down_mo
 use Rattle.table.specs.Filled.{item_most}
 use Rattle.views.specs.declared.OrderRange.{OrderRange}
 use Rattle.views.specs.Views.{load_only, range_with, range_of, plant_dock_orders, plant_docks_from}
+
+-- an entry of the part of a load from a place on
+pub entry_from : (l : List ℕ) (from k : ℕ) → get_or (take (length l - from) (drop from l)) k 0 ≡ get_or l (from + k) 0
+entry_from l from k = rw (← length-drop from l, take-length (drop from l)) (get_or-drop from l k 0)
 
 -- ---- a sum, on the way up
 pub record Summed (g : ℕ → ℕ) (most : ℕ) (l : List ℕ) (from total j : ℕ) : Type 0 where
@@ -121,16 +127,16 @@ module _ {i : Instance} {load : List ℕ} where
     its_dock : listed (IG (item i (get_or load (j - 1) 0))) (plant_docks_from i load j) ≡ later
     its_dock = sym (el ∙ ap (λ n. listed n (plant_docks_from i load j)) ed)
 
-    pub counted_new : not later ≡ true → Counted i load (j - 1) (count + 1)
+    pub counted_new : later ≡ false → Counted i load (j - 1) (count + 1)
     unfolding docks_over plant_docks_from
     counted_new t =
-        let more = dedup_new (IG (item i (get_or load (j - 1) 0))) (plant_docks_from i load j) (its_dock ∙ not-true later t) in
+        let more = dedup_new (IG (item i (get_or load (j - 1) 0))) (plant_docks_from i load j) (its_dock ∙ t) in
         record { down = down_more 0 h.down k (ap (λ n. n + 1) h.down.is ∙ sym more); few = omega (arith, h.few) }
 
-    pub counted_again : not later ≡ false → Counted i load (j - 1) count
+    pub counted_again : later ≡ true → Counted i load (j - 1) count
     unfolding docks_over plant_docks_from
     counted_again t =
-        let same = dedup_again (IG (item i (get_or load (j - 1) 0))) (plant_docks_from i load j) (its_dock ∙ not-false later t) in
+        let same = dedup_again (IG (item i (get_or load (j - 1) 0))) (plant_docks_from i load j) (its_dock ∙ t) in
         record { down = down_more 0 h.down k (h.down.is ∙ sym same); few = omega (arith, h.few) }
 
   pub counted_end : {j count : ℕ} → Counted i load j count → j ≤ 0 → length load ≤ 64 → (count ≡ plant_dock_count i (load_only load)) × (count ≤ 64)

@@ -7,16 +7,12 @@ ghost use Rattle.meaning.specs.Lists.{sum, listed, order_in};
 ghost use Rattle.meaning.specs.Model.{item, truck_of, truck_numbered, IL, IW, IG, IU, IK};
 ghost use Rattle.meaning.specs.Measures.{bottom, docks_of};
 ghost use Rattle.meaning.specs.Rules.{plant_dock_count};
-ghost use Rattle.meaning.specs.Table.{instance_in, stacks_in};
-ghost use Rattle.table.specs.Filled.{Filled, LoadOfItems, stack_at, ItemNumber, TruckNumber, item_most, truck_most};
+ghost use Rattle.table.specs.Filled.{LoadOfItems, stack_at, ItemNumber, TruckNumber, item_most, truck_most};
 ghost use Rattle.views.specs.Views.{position_of, PositionInRange, extent_of, footprint_from, size_of, load_only};
 ghost use Rattle.views.specs.Views.{plant_dock_orders, range_with, range_of, rank_of, plant_docks_from};
+ghost use Rattle.table.specs.Held.{instance_of, stacks_of};
 
-use meaning::Limits;
-use table::{
-    docks, fields, item_field, load, order_in, plant_docks, stack_field, stack_truck, suppliers,
-    truck_field,
-};
+use table::{Table, fields, order_in};
 
 // Where a stack stands, and which way it is turned.
 #[derive(Clone, Copy)]
@@ -64,33 +60,33 @@ pub struct Rank {
 // ---- fields of a stack of the table
 
 // A field of a stack's bottom item.
-pub fn bottom_field(t: &[u32], limits: Limits, s: usize, field: usize) -> u32
-    requires { Filled limits t.now × (s < length (stacks_in limits t.now)) × (field < 16) }
-    ensures { (result ≡ get_or (bottom (instance_in limits t.now) (stack_at (stacks_in limits t.now) s)) field 0)
+pub fn bottom_field(table: Table<'_>, s: usize, field: usize) -> u32
+    requires { (s < length (stacks_of table)) × (field < 16) }
+    ensures { (result ≡ get_or (bottom (instance_of table.entry) (stack_at (stacks_of table.entry) s)) field 0)
         × (result ≤ item_most field) }
 {
-    let items = load(t, limits, s);
-    item_field(t, limits, items[0], field)
+    let items = table.load(s);
+    table.item_field(items[0], field)
 }
 
 // A field of the truck that a stack is on.
-pub fn stack_truck_field(t: &[u32], limits: Limits, s: usize, field: usize) -> u32
-    requires { Filled limits t.now × (s < length (stacks_in limits t.now)) × (field < 20) }
-    ensures { (result ≡ get_or (truck_of (instance_in limits t.now) (stack_at (stacks_in limits t.now) s)).fields field
+pub fn stack_truck_field(table: Table<'_>, s: usize, field: usize) -> u32
+    requires { (s < length (stacks_of table)) × (field < 20) }
+    ensures { (result ≡ get_or (truck_of (instance_of table.entry) (stack_at (stacks_of table.entry) s)).fields field
         0) × (result ≤ truck_most field) }
 {
-    truck_field(t, limits, stack_truck(t, limits, s), field)
+    table.truck_field(table.stack_truck(s), field)
 }
 
 // Where a stack stands.
-pub fn read_position(t: &[u32], limits: Limits, s: usize) -> Position
-    requires { Filled limits t.now × (s < length (stacks_in limits t.now)) }
-    ensures { (result ≡ position_of (stack_at (stacks_in limits t.now) s)) × PositionInRange result }
+pub fn read_position(table: Table<'_>, s: usize) -> Position
+    requires { s < length (stacks_of table) }
+    ensures { (result ≡ position_of (stack_at (stacks_of table.entry) s)) × PositionInRange result }
 {
     Position {
-        x: stack_field(t, limits, s, fields::X),
-        y: stack_field(t, limits, s, fields::Y),
-        orientation: stack_field(t, limits, s, fields::ORIENTATION),
+        x: table.stack_field(s, fields::X),
+        y: table.stack_field(s, fields::Y),
+        orientation: table.stack_field(s, fields::ORIENTATION),
     }
 }
 
@@ -129,42 +125,40 @@ fn footprint_from(position: Position, length: u32, width: u32) -> Footprint
 }
 
 // The ground of a stack, by its position and its load.
-pub fn read_footprint(t: &[u32], limits: Limits, position: Position, load: &[u32]) -> Footprint
-    requires { Filled limits t.now × LoadOfItems (instance_in limits t.now) load.now × PositionInRange position }
-    ensures { result ≡ footprint_from position (IL (item (instance_in limits t.now) (get_or load.now 0 0)))
-        (IW (item (instance_in limits t.now) (get_or load.now 0 0))) }
+pub fn read_footprint(table: Table<'_>, position: Position, load: &[u32]) -> Footprint
+    requires { LoadOfItems (instance_of table) load.now × PositionInRange position }
+    ensures { result ≡ footprint_from position (IL (item (instance_of table.entry) (get_or load.now 0 0)))
+        (IW (item (instance_of table.entry) (get_or load.now 0 0))) }
 {
     let bottom = load[0];
-    let length = item_field(t, limits, bottom, fields::IL);
-    let width = item_field(t, limits, bottom, fields::IW);
+    let length = table.item_field(bottom, fields::IL);
+    let width = table.item_field(bottom, fields::IW);
     footprint_from(position, length, width)
 }
 
 // ---- weight and height
 
 // The sum of a field over the items of a load: all of them from 0, those above the bottom item from 1.
-pub fn load_sum(t: &[u32], limits: Limits, load: &[u32], from: usize, field: usize) -> u32
-    requires { Filled limits t.now × LoadOfItems (instance_in limits t.now) load.now × (from ≤ 1) × (field < 16) }
-    ensures { (result ≡ sum (λ n. get_or (item (instance_in limits t.now) n) field 0) (drop from load.now))
+pub fn load_sum(table: Table<'_>, load: &[u32], from: usize, field: usize) -> u32
+    requires { LoadOfItems (instance_of table) load.now × (from ≤ 1) × (field < 16) }
+    ensures { (result ≡ sum (λ n. get_or (item (instance_of table.entry) n) field 0) (drop from load.now))
         × (result ≤ item_most field * 64) }
 {
     let mut sum: u32 = 0;
-    let mut j = from;
-    while j < load.len() {
-        sum += item_field(t, limits, load[j], field);
-        j += 1;
+    for n in &load[from..] {
+        sum += table.item_field(*n, field);
     }
     sum
 }
 
 // The weight and the height of a load. Each item but the bottom one sinks by its nesting height into the one below it.
-pub fn read_size(t: &[u32], limits: Limits, load: &[u32]) -> Size
-    requires { Filled limits t.now × LoadOfItems (instance_in limits t.now) load.now }
-    ensures { result ≡ size_of (instance_in limits t.now) load.now }
+pub fn read_size(table: Table<'_>, load: &[u32]) -> Size
+    requires { LoadOfItems (instance_of table) load.now }
+    ensures { result ≡ size_of (instance_of table.entry) load.now }
 {
-    let weight = load_sum(t, limits, load, 0, fields::IM);
-    let heights = load_sum(t, limits, load, 0, fields::IH);
-    let nested = load_sum(t, limits, load, 1, fields::NESTING);
+    let weight = load_sum(table, load, 0, fields::IM);
+    let heights = load_sum(table, load, 0, fields::IH);
+    let nested = load_sum(table, load, 1, fields::NESTING);
     Size {
         weight,
         height: heights - nested,
@@ -174,53 +168,43 @@ pub fn read_size(t: &[u32], limits: Limits, load: &[u32]) -> Size
 // ---- loading orders on a truck; 0 for what is not listed
 
 // The loading order of a supplier.
-pub fn supplier_order(t: &[u32], limits: Limits, truck: u32, supplier: u32) -> usize
-    requires { Filled limits t.now × TruckNumber (instance_in limits t.now) truck }
-    ensures { (result ≡ order_in (truck_numbered (instance_in limits t.now) truck).suppliers supplier)
-        × (result ≤ length (truck_numbered (instance_in limits t.now) truck).suppliers) × (result ≤ 8) }
+pub fn supplier_order(table: Table<'_>, truck: u32, supplier: u32) -> usize
+    requires { TruckNumber (instance_of table) truck }
+    ensures { (result ≡ order_in (truck_numbered (instance_of table.entry) truck).suppliers supplier)
+        × (result ≤ length (truck_numbered (instance_of table.entry) truck).suppliers) × (result ≤ 8) }
 {
-    order_in(suppliers(t, limits, truck), supplier)
+    order_in(table.suppliers(truck), supplier)
 }
 
 // The loading order of a dock among the docks of a supplier, who is given by the loading order.
-fn dock_order(t: &[u32], limits: Limits, truck: u32, supplier: usize, dock: u32) -> usize
-    requires { Filled limits t.now × TruckNumber (instance_in limits t.now) truck
-        × (supplier ≤ length (truck_numbered (instance_in limits t.now) truck).suppliers) }
-    ensures { (result ≡ order_in (get_or ([] ∷ (truck_numbered (instance_in limits t.now) truck).docks) supplier []) dock)
+fn dock_order(table: Table<'_>, truck: u32, supplier: usize, dock: u32) -> usize
+    requires { TruckNumber (instance_of table) truck × (supplier ≤ length (truck_numbered (instance_of table) truck).suppliers) }
+    ensures { (result ≡ order_in (get_or ([] ∷ (truck_numbered (instance_of table.entry) truck).docks) supplier []) dock)
         × (result ≤ 8) }
 {
     if supplier == 0 {
         return 0;
     }
-    order_in(docks(t, limits, truck, supplier), dock)
+    order_in(table.docks(truck, supplier), dock)
 }
 
 // The loading order of an item's supplier dock among the docks of its supplier.
-pub fn supplier_dock_order(t: &[u32], limits: Limits, truck: u32, n: u32) -> usize
-    requires { Filled limits t.now × TruckNumber (instance_in limits t.now) truck × ItemNumber (instance_in limits t.now) n }
-    ensures { (result ≡ order_in (docks_of (truck_numbered (instance_in limits t.now) truck)
-        (IU (item (instance_in limits t.now) n))) (IK (item (instance_in limits t.now) n))) × (result ≤ 8) }
+pub fn supplier_dock_order(table: Table<'_>, truck: u32, n: u32) -> usize
+    requires { TruckNumber (instance_of table) truck × ItemNumber (instance_of table) n }
+    ensures { (result ≡ order_in (docks_of (truck_numbered (instance_of table.entry) truck)
+        (IU (item (instance_of table.entry) n))) (IK (item (instance_of table.entry) n))) × (result ≤ 8) }
 {
-    let supplier = supplier_order(t, limits, truck, item_field(t, limits, n, fields::IU));
-    dock_order(
-        t,
-        limits,
-        truck,
-        supplier,
-        item_field(t, limits, n, fields::IK),
-    )
+    let supplier = supplier_order(table, truck, table.item_field(n, fields::IU));
+    dock_order(table, truck, supplier, table.item_field(n, fields::IK))
 }
 
 // The loading order of an item's plant dock.
-pub fn plant_dock_order(t: &[u32], limits: Limits, truck: u32, n: u32) -> usize
-    requires { Filled limits t.now × TruckNumber (instance_in limits t.now) truck × ItemNumber (instance_in limits t.now) n }
-    ensures { (result ≡ order_in (truck_numbered (instance_in limits t.now) truck).plant_docks
-        (IG (item (instance_in limits t.now) n))) × (result ≤ 8) }
+pub fn plant_dock_order(table: Table<'_>, truck: u32, n: u32) -> usize
+    requires { TruckNumber (instance_of table) truck × ItemNumber (instance_of table) n }
+    ensures { (result ≡ order_in (truck_numbered (instance_of table.entry) truck).plant_docks
+        (IG (item (instance_of table.entry) n))) × (result ≤ 8) }
 {
-    order_in(
-        plant_docks(t, limits, truck),
-        item_field(t, limits, n, fields::IG),
-    )
+    order_in(table.plant_docks(truck), table.item_field(n, fields::IG))
 }
 
 // The lowest and the highest of some loading orders.
@@ -237,83 +221,71 @@ const MOST_PLANT_DOCKS: u32 = 8;
 fn including(range: OrderRange, order: u32) -> OrderRange
     ensures { result ≡ range_with order range }
 {
-    let mut lowest = range.lowest;
-    if order < lowest {
-        lowest = order;
+    OrderRange {
+        lowest: range.lowest.min(order),
+        highest: range.highest.max(order),
     }
-    let mut highest = range.highest;
-    if highest < order {
-        highest = order;
-    }
-    OrderRange { lowest, highest }
 }
 
 // The range of the plant dock orders of a load's items.
-fn plant_dock_range(t: &[u32], limits: Limits, truck: u32, load: &[u32]) -> OrderRange
-    requires { Filled limits t.now × TruckNumber (instance_in limits t.now) truck × LoadOfItems (instance_in limits t.now) load.now }
-    ensures { result ≡ range_of (plant_dock_orders (instance_in limits t.now) truck load.now) }
+fn plant_dock_range(table: Table<'_>, truck: u32, load: &[u32]) -> OrderRange
+    requires { TruckNumber (instance_of table) truck × LoadOfItems (instance_of table) load.now }
+    ensures { result ≡ range_of (plant_dock_orders (instance_of table.entry) truck load.now) }
 {
-    let docks = plant_docks(t, limits, truck);
+    let docks = table.plant_docks(truck);
     let mut range = OrderRange {
         lowest: MOST_PLANT_DOCKS,
         highest: 0,
     };
-    let mut j = load.len();
-    while 0 < j {
-        j -= 1;
-        let order = order_in(docks, item_field(t, limits, load[j], fields::IG));
+    for j in (0..load.len()).rev() {
+        let order = order_in(docks, table.item_field(load[j], fields::IG));
         range = including(range, order as u32);
     }
     range
 }
 
 // The rank of a stack in the loading order, by its truck's number and its load.
-pub fn read_rank(t: &[u32], limits: Limits, truck: u32, load: &[u32]) -> Rank
-    requires { Filled limits t.now × TruckNumber (instance_in limits t.now) truck × LoadOfItems (instance_in limits t.now) load.now }
-    ensures { result ≡ rank_of (instance_in limits t.now) truck load.now }
+pub fn read_rank(table: Table<'_>, truck: u32, load: &[u32]) -> Rank
+    requires { TruckNumber (instance_of table) truck × LoadOfItems (instance_of table) load.now }
+    ensures { result ≡ rank_of (instance_of table.entry) truck load.now }
 {
     let bottom = load[0];
-    let supplier = item_field(t, limits, bottom, fields::IU);
-    let dock = item_field(t, limits, bottom, fields::IK);
-    let order = supplier_order(t, limits, truck, supplier);
-    let range = plant_dock_range(t, limits, truck, load);
+    let supplier = table.item_field(bottom, fields::IU);
+    let dock = table.item_field(bottom, fields::IK);
+    let order = supplier_order(table, truck, supplier);
+    let range = plant_dock_range(table, truck, load);
     Rank {
         supplier,
         dock,
         supplier_order: order as u32,
-        dock_order: dock_order(t, limits, truck, order, dock) as u32,
+        dock_order: dock_order(table, truck, order, dock) as u32,
         lowest: range.lowest,
         highest: range.highest,
     }
 }
 
 // Whether an item of a load, from place `from` on, has this plant dock.
-fn has_plant_dock(t: &[u32], limits: Limits, load: &[u32], from: usize, dock: u32) -> bool
-    requires { Filled limits t.now × LoadOfItems (instance_in limits t.now) load.now × (from ≤ length load.now) }
-    ensures { result ≡ listed dock (plant_docks_from (instance_in limits t.now) load.now from) }
+fn has_plant_dock(table: Table<'_>, load: &[u32], from: usize, dock: u32) -> bool
+    requires { LoadOfItems (instance_of table) load.now × (from ≤ length load.now) }
+    ensures { result ≡ listed dock (plant_docks_from (instance_of table.entry) load.now from) }
 {
-    let mut j = from;
-    while j < load.len() {
-        if item_field(t, limits, load[j], fields::IG) == dock {
+    for n in &load[from..] {
+        if table.item_field(*n, fields::IG) == dock {
             return true;
         }
-        j += 1;
     }
     false
 }
 
 // How many plant docks a load has. A dock is counted at the last item that has it.
-pub fn plant_dock_count(t: &[u32], limits: Limits, load: &[u32]) -> u32
-    requires { Filled limits t.now × LoadOfItems (instance_in limits t.now) load.now }
-    ensures { (result ≡ plant_dock_count (instance_in limits t.now) (load_only load.now)) × (result ≤ 64) }
+pub fn plant_dock_count(table: Table<'_>, load: &[u32]) -> u32
+    requires { LoadOfItems (instance_of table) load.now }
+    ensures { (result ≡ plant_dock_count (instance_of table.entry) (load_only load.now)) × (result ≤ 64) }
 {
     let mut count: u32 = 0;
-    let mut j = load.len();
-    while 0 < j {
-        let above = j;
-        j -= 1;
-        let dock = item_field(t, limits, load[j], fields::IG);
-        if !has_plant_dock(t, limits, load, above, dock) {
+    for j in (0..load.len()).rev() {
+        let dock = table.item_field(load[j], fields::IG);
+        if !has_plant_dock(table, load, j + 1, dock) {
             count += 1;
         }
     }

@@ -15,7 +15,7 @@ use Rattle.meaning.proofs.Ranges.{read_meets}
 use Rattle.meaning.proofs.ReadFiles.{read_reads}
 use Rattle.meaning.proofs.Stored.{stored_reads, filled_whole}
 use Rattle.meaning.proofs.WriteBack.{writes_back_lem}
-use Rattle.table.specs.Filled.{Bounded, Filled}
+use Rattle.table.specs.Filled.{Bounded, Room, Filled}
 use Rattle.table.proofs.Fill.{table_filled}
 use Rattle.printing.specs.Wrote.{Wrote}
 use Rattle.stored.specs.Parts.{PrintRoom}
@@ -26,11 +26,18 @@ pub small_room : (m : Limits) → m ≡ small → Bounded m → PrintRoom m
 small_room m e b = record { bounded = b; instance = rw e (omega arith); plan = rw e (omega arith) }
 
 -- ---- a table that passes holds a model in range, whose files are short enough
-pub stored_filled : {m : Limits} → Bounded m → (t : List ℕ) → stored m t ≡ true → Filled m t
+stored_filled : {m : Limits} → Bounded m → (t : List ℕ) → stored m t ≡ true → Filled m t
 stored_filled {m} b t e =
     let h = (stored_reads m t).0 e in
     let f = h.files in
     rw (filled_whole m t h) at (table_filled m f.says f.stacks (drop (named m) t) (read_meets m (instance_file m t) (plan_file m t) f) b)
+
+-- the same where the test of the table told it
+pub told_filled : {m : Limits} → Bounded m → (t : List ℕ) {r : Bool} → r ≡ stored m t → r ≡ true → Filled m t
+told_filled b t told e = stored_filled b t (sym told ∙ e)
+
+pub told_room : {m : Limits} → Bounded m → (t : List ℕ) {r : Bool} → r ≡ stored m t → r ≡ true → Room m t
+told_room b t told e = let filled = told_filled b t told e in record { bounded = filled.bounded; room = filled.room }
 
 pub stored_short : (m : Limits) (t : List ℕ) → stored m t ≡ true → (length (instance_file m t) ≤ m.bytes) × (length (plan_file m t) ≤ m.bytes)
 stored_short m t e =

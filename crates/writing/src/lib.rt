@@ -6,51 +6,63 @@ ghost use Rattle.meaning.specs.Limits.{small};
 ghost use Rattle.meaning.specs.Write.{turned_down, written};
 ghost use Rattle.stored.specs.Parts.{PrintRoom};
 ghost use Rattle.writing.specs.Promised.{WritePromise};
+ghost use Rattle.writing.specs.Refused.{number_of, answer_of};
 
 use listing::{write_instance, write_plan};
 use meaning::{Limits, Written};
 use stored::is_stored;
-use table::small_limits;
+use table::{NamedWords, Table, small_limits};
 
-// ---- the refusals by document 02's numbers
-const SHORT_BUFFER: u32 = 29;
+// Why nothing is written, by document 02's numbers.
+#[derive(Clone, Copy)]
+enum Refusal {
+    ShortBuffer = 29,
+    UnfilledTable = 30,
+}
 
-const UNFILLED_TABLE: u32 = 30;
+impl From<Refusal> for Written {
+    ghost from_gives = { λ refusal answer. answer ≡ written (turned_down (number_of refusal)) };
 
-// A refusal by its number. Nothing is written then, so both lengths are 0.
-fn refused(number: u32) -> Written
-    ensures { result ≡ written (turned_down number) }
-{
-    Written {
-        number,
-        instance_length: 0,
-        plan_length: 0,
+    // The number of the refusal. Nothing is written then, so both lengths are 0.
+    fn from(refusal: Refusal) -> Written {
+        Written {
+            number: refusal as u32,
+            instance_length: 0,
+            plan_length: 0,
+        }
     }
 }
 
 // Writes both files within the limits, into buffers that have room for any file. Nothing is written before every test is passed, and no length
 // is tested on the way: the ranges of the words leave no longer file.
-fn write_within(limits: Limits, t: &[u32], instance: &mut [u8], plan: &mut [u8]) -> Written
+fn write_within(
+    limits: Limits,
+    t: &[u32],
+    instance: &mut [u8],
+    plan: &mut [u8],
+) -> Result<Written, Refusal>
     requires { PrintRoom limits }
     ensures { WritePromise limits t.now instance.old plan.old instance.new
-        plan.new result }
+        plan.new (answer_of result) }
 {
     if instance.len() < limits.bytes {
-        return refused(SHORT_BUFFER);
+        return Err(Refusal::ShortBuffer);
     }
     if plan.len() < limits.bytes {
-        return refused(SHORT_BUFFER);
+        return Err(Refusal::ShortBuffer);
     }
     if !is_stored(t, limits) {
-        return refused(UNFILLED_TABLE);
+        return Err(Refusal::UnfilledTable);
     }
-    let instance_length = write_instance(t, limits, instance);
-    let plan_length = write_plan(t, limits, plan);
-    Written {
+    let named = NamedWords { words: t, limits };
+    let table = Table { named };
+    let instance_length = write_instance(table, instance);
+    let plan_length = write_plan(table, plan);
+    Ok(Written {
         number: 0,
         instance_length,
         plan_length,
-    }
+    })
 }
 
 // Writes the instance file and the plan file that a table says into the lent buffers, by the limits of document 01. Any table and any buffers may
@@ -59,5 +71,8 @@ pub fn write_files(table: &[u32], instance: &mut [u8], plan: &mut [u8]) -> Writt
     ensures { WritePromise small table.now instance.old plan.old instance.new
         plan.new result }
 {
-    write_within(small_limits(), table, instance, plan)
+    match write_within(small_limits(), table, instance, plan) {
+        Ok(lengths) => lengths,
+        Err(refusal) => Written::from(refusal),
+    }
 }

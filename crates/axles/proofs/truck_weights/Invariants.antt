@@ -1,13 +1,10 @@
 -- The loop keeps the lowest places of the departures after the current one; all stacks are on one used truck.
 use Rattle.meaning.specs.Measures.{UsedTruck}
-use Rattle.axles.specs.Weights.{BoundedRows, BoundedAxles, middle_under, rear_under}
+use Rattle.axles.specs.Weights.{middle_under, rear_under}
 use Rattle.axles.proofs.Departures.{AxleFrom}
 use Rattle.axles.proofs.truck_weights.Given as goal
 
-abbrev pub invariant-loop-departure : goal.invariant-loop-departure
-invariant-loop-departure l = let u : UsedTruck = record { truck = l.truck; copy = l.copy } in
-    BoundedRows l.rows l.on × BoundedAxles l.axles × AxleFrom middle_under l.rows l.on l.axles u l.initial.departure l.departure l.middle
-    × AxleFrom rear_under l.rows l.on l.axles u l.initial.departure l.departure l.rear
-
-abbrev pub decreases-loop-departure : goal.decreases-loop-departure
-decreases-loop-departure l = l.departure
+abbrev pub invariant-loop-before : goal.invariant-loop-before
+invariant-loop-before l = let u : UsedTruck = record { truck = l.truck; copy = l.copy } in
+    AxleFrom middle_under l.manifest.rows.now l.fn.on l.axles.0 u l.initial.before l.before l.middle
+    × AxleFrom rear_under l.manifest.rows.now l.fn.on l.axles.0 u l.initial.before l.before l.rear

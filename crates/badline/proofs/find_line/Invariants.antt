@@ -1,11 +1,7 @@
--- The walk goes from line to line; each step leaves the line that is looked for where it was.
-use Prim.Native.Nat.{◌-◌}
-use lib.ListN.{length}
+-- The line that is looked for is as many lines on from `start` as are still to be passed.
+use Prim.Native.Nat.{◌+◌, ◌-◌}
 use Rattle.badline.proofs.Spans.{Walk}
 use Rattle.badline.proofs.find_line.Given as goal
 
-abbrev pub invariant-loop-at : goal.invariant-loop-at
-invariant-loop-at l = Walk l.file l.line l.left l.at
-
-abbrev pub decreases-loop-at : goal.decreases-loop-at
-decreases-loop-at l = length l.file - l.at
+abbrev pub invariant-loop-passed : goal.invariant-loop-passed
+invariant-loop-passed l = Walk l.file l.line (l.line + 1 - l._passed) l.start

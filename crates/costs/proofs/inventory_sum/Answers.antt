@@ -10,7 +10,7 @@ loop-s-init c = summed_start c.stack_count-s.ensures.0
 pub overflow_add-sum : goal.overflow_add-sum
 overflow_add-sum c =
     let room = summed_room no_stack c.loop-s.invariant c.loop-s-test.true c.stack_inventory-sum.ensures.1 in
-    omega (arith, room, plan_bound c.requires)
+    omega (arith, room, plan_bound c.args.table.filled)
 
 pub loop-s-preserved : goal.loop-s-preserved
 loop-s-preserved c =
@@ -20,4 +20,4 @@ loop-s-preserved c =
 pub returns : goal.returns
 returns c =
     let all = summed_end c.loop-s.invariant c.loop-s-test.false in
-    (all.0, omega (arith, all.1, plan_bound c.requires))
+    (all.0, omega (arith, all.1, plan_bound c.args.table.filled))

@@ -5,7 +5,4 @@ use Rattle.costs.proofs.Costs.{Summed, stack_bound}
 use Rattle.costs.proofs.inventory_sum.Given as goal
 
 abbrev pub invariant-loop-s : goal.invariant-loop-s
-invariant-loop-s l = Summed (inventory_cost (instance_in l.limits l.t)) stack_bound (stacks_in l.limits l.t) l.s l.sum
-
-abbrev pub decreases-loop-s : goal.decreases-loop-s
-decreases-loop-s l = l.s
+invariant-loop-s l = Summed (inventory_cost (instance_in l.table.named.limits l.table.named.words.now)) stack_bound (stacks_in l.table.named.limits l.table.named.words.now) l.s l.sum

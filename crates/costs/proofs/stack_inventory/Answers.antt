@@ -1,6 +1,5 @@
 -- `costs::stack_inventory`: what is summed is the cost of the items from the current one on.
 use mathlib.Core.Path.{refl, ap, ◌∙◌}
-use Prim.Native.Nat.{◌-◌}
 use native.Mathlib.Omega.{arith}
 use Rattle.meaning.specs.Model.{truck_numbered, TDA}
 use Rattle.meaning.specs.Table.{instance_in, stacks_in}
@@ -12,15 +11,6 @@ use Rattle.costs.proofs.stack_inventory.Goals as goal
 pub loop-j-init : goal.loop-j-init
 loop-j-init c = summed_start refl
 
-pub offset_bounds-items-j : goal.offset_bounds-items-j
-offset_bounds-items-j c = omega (arith, c.loop-j.invariant.down.upto, c.load-items.ensures.1.few)
-
-pub bounds-items-j : goal.bounds-items-j
-bounds-items-j c = omega (arith, c.loop-j.invariant.down.upto, c.loop-j-test.true)
-
-pub item_inventory-sum-requires : goal.item_inventory-sum-requires
-item_inventory-sum-requires c = (c.requires.0, c.load-items.ensures.1.entries (c.loop-j.j - 1) (omega (arith, c.loop-j.invariant.down.upto, c.loop-j-test.true)))
-
 pub overflow_add-sum : goal.overflow_add-sum
 overflow_add-sum c =
     let room = summed_room 0 c.loop-j.invariant c.loop-j-test.true c.item_inventory-sum.ensures.1 in
@@ -29,8 +19,8 @@ overflow_add-sum c =
 pub loop-j-preserved : goal.loop-j-preserved
 loop-j-preserved c =
     let a = c.args in
-    let i = instance_in a.limits a.t.now in
-    let s = stack_at (stacks_in a.limits a.t.now) a.s in
+    let i = instance_in a.table.named.limits a.table.named.words.now in
+    let s = stack_at (stacks_in a.table.named.limits a.table.named.words.now) a.s in
     let day = c.truck_field-arrival.ensures.0 ∙ ap (λ n. TDA (truck_numbered i n)) c.stack_truck.ensures.0 in
     summed_more 0 c.loop-j.invariant c.loop-j-test.true (item_cost_lem i s c.item_inventory-sum.ensures.0 refl day) c.item_inventory-sum.ensures.1
 

@@ -5,7 +5,4 @@ use Rattle.costs.proofs.Costs.{Summed, item_cost, item_bound}
 use Rattle.costs.proofs.stack_inventory.Given as goal
 
 abbrev pub invariant-loop-j : goal.invariant-loop-j
-invariant-loop-j l = Summed (item_cost (instance_in l.limits l.t) (stack_at (stacks_in l.limits l.t) l.s)) item_bound l.items l.j l.sum
-
-abbrev pub decreases-loop-j : goal.decreases-loop-j
-decreases-loop-j l = l.j
+invariant-loop-j l = Summed (item_cost (instance_in l.table.named.limits l.table.named.words.now) (stack_at (stacks_in l.table.named.limits l.table.named.words.now) l.s)) item_bound l.items l.j l.sum

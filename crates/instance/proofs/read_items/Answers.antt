@@ -1,23 +1,20 @@
--- `read_items`: so far k items are read, and their words stand in front of zeros.
-use mathlib.Core.Path.{refl, sym, ap, ◌∙◌}
-use Prim.Native.Nat.{ℕ, ◌+◌, ◌-◌, ◌*◌}
+-- Each item's words are put behind those before; the first line that is refused ends the reading.
+use Prim.Native.Nat.{◌+◌, ◌-◌, ◌*◌}
 use native.Mathlib.Omega.{arith}
-use lib.ListN.{replicate}
-use Rattle.trucks.proofs.Repeat.{first, next, done}
+use Rattle.lines.proofs.Follow.{handed_on}
+use Rattle.trucks.proofs.Repeat.{first, next, repeat_refused, done}
 use Rattle.instance.proofs.read_items.Goals as goal
 
 pub loop-k-init : goal.loop-k-init
-loop-k-init c = (refl, first c.args.count c.args.p _ c.requires.0 (c.clear.ensures ∙ ap (λ (n : ℕ). replicate n 0) (sym c.clear.auto.words)))
+loop-k-init c = first _ _ _ c.requires.0 c.clear.ensures
 
-pub read_item-q-requires : goal.read_item-q-requires
-read_item-q-requires c = (c.loop-k.invariant.1.within, omega arith)
+pub returns-in_err-next : goal.returns-in_err-next
+returns-in_err-next c = handed_on c.from_residual.ensures.1 (repeat_refused c.loop-k.invariant (omega arith) (rw c.in_err-next.was at c.read_item.ensures))
 
 pub loop-k-preserved : goal.loop-k-preserved
 loop-k-preserved c =
-    let at = 16 * c.loop-k.k in (
-      omega (arith, c.loop-k.invariant.0, c.part-in-loop-k-1.given),
-      next c.loop-k.invariant.1 c.read_item-q.ensures (omega arith) (at + 16 - at) (omega arith) (omega arith) (omega arith),
-    )
+    let at = 16 * c.loop-k.k in
+    next c.loop-k.invariant (rw c.in_ok-next.was at c.read_item.ensures) (omega arith) (at + 16 - at) (omega arith) (omega arith) (omega arith)
 
 pub returns : goal.returns
-returns c = rw c.clear.auto.words at (done c.loop-k.invariant.1 (omega arith))
+returns c = done c.loop-k.invariant (omega arith)

@@ -3,4 +3,4 @@ use Rattle.judging.proofs.Cost.{accepted}
 use Rattle.judging.proofs.accept.Goals as goal
 
 pub returns : goal.returns
-returns c = accepted c.requires.1 c.plan_cost.ensures
+returns c = accepted c.requires c.plan_cost.ensures

@@ -6,7 +6,7 @@ use mathlib.Core.Path.{◌≡◌}
 use Rattle.judging.proofs.ask_trucks.Given as goal
 
 abbrev pub invariant-loop-end : goal.invariant-loop-end
-invariant-loop-end l = Told l.asked (instance_in l.limits l.t) (stacks_in l.limits l.t) l.end (record { single_pair = l.single_pair; placement = l.placement; weights = l.weights })
+invariant-loop-end l = Told l.asked (instance_in l.manifest.table.named.limits l.manifest.table.named.words.now) (stacks_in l.manifest.table.named.limits l.manifest.table.named.words.now) l.end l.found
     l.used.count l.used.cost
     × (length l.keys ≡ length l.initial.keys) × (length l.along ≡ length l.initial.along)
 

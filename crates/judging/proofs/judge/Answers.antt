@@ -4,10 +4,10 @@ use Rattle.meaning.specs.Table.{instance_in, stacks_in}
 use Rattle.rules.proofs.Ranks.{once_broken, once_kept}
 use Rattle.judging.proofs.judge.Goals as goal
 
-pub returns-in-At : goal.returns-in-At
-returns-in-At c = c.refuse.ensures ∙ once_broken (instance_in c.args.limits c.args.t.now) (stacks_in c.args.limits c.args.t.now) _ c.lowest_not_once-found.ensures c.in-At.is
+pub returns-in-Some : goal.returns-in-Some
+returns-in-Some c = c.refuse.ensures ∙ once_broken (instance_in c.args.table.named.limits c.args.table.named.words.now) (stacks_in c.args.table.named.limits c.args.table.named.words.now) _ c.lowest_not_once.ensures c.in-Some.is
 
 pub returns : goal.returns
 returns c =
     c.judge_loading.ensures
-    ∙ once_kept (instance_in c.args.limits c.args.t.now) (stacks_in c.args.limits c.args.t.now) c.lowest_not_once-found.ensures c.in-Nothing.is
+    ∙ once_kept (instance_in c.args.table.named.limits c.args.table.named.words.now) (stacks_in c.args.table.named.limits c.args.table.named.words.now) c.lowest_not_once.ensures c.in_default.is

@@ -1,10 +1,7 @@
 -- `judging::kinds_below`: everything is asked, or the kinds of the rules before k.
-use Prim.Native.Nat.{◌-◌, ◌≤◌}
+use Prim.Native.Nat.{◌≤◌}
 use Rattle.judging.specs.Judging.{AskedBelow}
 use Rattle.judging.proofs.kinds_below.Given as goal
 
 abbrev pub invariant-loop-k : goal.invariant-loop-k
 invariant-loop-k l = AskedBelow l.k l.asked × (l.k ≤ l.rank)
-
-abbrev pub decreases-loop-k : goal.decreases-loop-k
-decreases-loop-k l = l.rank - l.k

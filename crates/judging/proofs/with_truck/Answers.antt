@@ -11,14 +11,14 @@ use Rattle.judging.proofs.Cost.{cost_used}
 use Rattle.judging.proofs.with_truck.Goals as goal
 
 pub truck_cost-requires : goal.truck_cost-requires
-truck_cost-requires c = (c.requires.0.filled, rw c.row_word-truck.ensures (truck_is c.requires.0 c.args.start c.requires.1).1)
+truck_cost-requires c = (rw c.row_word-truck.ensures (truck_is c.args.manifest.holds c.args.start c.requires.0).1)
 
 pub returns : goal.returns
 returns c =
-    let i = instance_in c.args.limits c.args.t.now in
-    let s = manifest_at (stacks_in c.args.limits c.args.t.now) c.args.start in
+    let i = instance_in c.args.manifest.table.named.limits c.args.manifest.table.named.words.now in
+    let s = manifest_at (stacks_in c.args.manifest.table.named.limits c.args.manifest.table.named.words.now) c.args.start in
     let is : c.truck_cost.result ≡ transport_cost i (used_by s) =
-    cost_used i s c.truck_cost.ensures.0 (c.row_word-truck.ensures ∙ (truck_is c.requires.0 c.args.start c.requires.1).0)
-    (c.row_word-copy.ensures ∙ word_is c.requires.0 c.args.start c.requires.1 3 (omega arith))
+    cost_used i s c.truck_cost.ensures.0 (c.row_word-truck.ensures ∙ (truck_is c.args.manifest.holds c.args.start c.requires.0).0)
+    (c.row_word-copy.ensures ∙ word_is c.args.manifest.holds c.args.start c.requires.0 3 (omega arith))
     in
     (refl, ap (λ n. n + c.args.used.cost) is, omega (arith, c.truck_cost.ensures.1))

@@ -1,27 +1,16 @@
--- A line of one number, judged by its one range. Where it is out of range, the answer is 0.
-use mathlib.Core.Path.{refl}
-use Prim.Native.Nat.{◌<◌}
-use native.Mathlib.Omega.{arith}
-use Rattle.meaning.specs.Table.{largest_word}
-use Rattle.ranges.specs.Ranges.{head_range}
+-- A line of one number, judged by its one range.
+use mathlib.Core.Path.{refl, ◌∙◌}
 use Rattle.ranges.proofs.Ends.{head_below}
-use Rattle.lines.proofs.Number.{passed_word, refused_word, number_read}
+use Rattle.lines.proofs.Number.{number_says, told_refused}
 use Rattle.lines.proofs.head_line.Goals as goal
 
-pub returns-then-in_range : goal.returns-then-in_range
-returns-then-in_range c =
-    let below : (head_range c.args.limits c.args.place).high < largest_word =
-    head_below c.args.limits c.requires.0 c.args.place c.requires.2 in
-    let promised =
-    number_read _ below c.stored_line-stored.ensures refl (omega arith) c.head_number_in_range-in_range.ensures c.judged-progress.ensures
-    (passed_word _ c.if-in_range.true)
-    in record { says = promised.0; within = promised.1 }
+pub returns-in_err-next-clause-says : goal.returns-in_err-next-clause-says
+returns-in_err-next-clause-says c k b =
+    let below = head_below c.args.limits c.requires.0 c.args.place c.requires.2 in
+    told_refused _ _ _ c.from_residual.ensures.1
+    ∙ number_says _ below c.stored_line-stored.ensures refl c.stored_line-stored.auto.out _ c.head_number_in_range.ensures _ (rw c.in_err-next.was at c.judged.ensures) k b
 
-pub returns-else-in_range : goal.returns-else-in_range
-returns-else-in_range c =
-    let below : (head_range c.args.limits c.args.place).high < largest_word =
-    head_below c.args.limits c.requires.0 c.args.place c.requires.2 in
-    let promised =
-    number_read _ below c.stored_line-stored.ensures refl (omega arith) c.head_number_in_range-in_range.ensures c.judged-progress.ensures
-    (refused_word _ c.if-in_range.false)
-    in record { says = promised.0; within = promised.1 }
+pub returns-clause-says : goal.returns-clause-says
+returns-clause-says c =
+    let below = head_below c.args.limits c.requires.0 c.args.place c.requires.2 in
+    number_says _ below c.stored_line-stored.ensures refl c.stored_line-stored.auto.out _ c.head_number_in_range.ensures _ (rw c.in_ok-next.was at c.judged.ensures)

@@ -1,7 +1,6 @@
 -- `listing::write_docks`: the docks from the next supplier's on are still to be written.
 use mathlib.Core.List.{List}
-use Prim.Native.Nat.{ℕ, ◌-◌}
-use lib.ListN.{length}
+use Prim.Native.Nat.{ℕ}
 use Rattle.meaning.specs.Model.{truck_numbered}
 use Rattle.meaning.specs.Reorder.{ended}
 use Rattle.meaning.specs.Print.{printed_line}
@@ -12,8 +11,5 @@ use Rattle.listing.proofs.write_docks.Given as goal
 abbrev line : List ℕ → List ℕ
 line ns = ended (printed_line "docks=" ns)
 
-abbrev pub invariant-loop-supplier : goal.invariant-loop-supplier
-invariant-loop-supplier l = Listing line (truck_numbered (instance_in l.limits l.t) l.n).docks l.initial.out l.out l.at l.supplier
-
-abbrev pub decreases-loop-supplier : goal.decreases-loop-supplier
-decreases-loop-supplier l = length l.visited - l.supplier
+abbrev pub invariant-loop-passed : goal.invariant-loop-passed
+invariant-loop-passed l = Listing line (truck_numbered (instance_in l.table.named.limits l.table.named.words.now) l.n).docks l.initial.out l.out l.at l.passed

@@ -24,151 +24,45 @@ behind-transport i =
 pub write_one-at-requires : goal.write_one-at-requires
 write_one-at-requires c =
     let instance : Instance =
-    instance_in c.args.limits c.args.t.now in
+    instance_in c.args.table.named.limits c.args.table.named.words.now in
     line_room "transport=" (one c.transport_coefficient.ensures.0) _
-    (omega (arith, c.requires.1, first_most (line "transport=" instance.αT) (behind-transport instance) refl))
-
-pub slice_bounds-write_one-count : goal.slice_bounds-write_one-count
-slice_bounds-write_one-count c =
-    let instance : Instance =
-    instance_in c.args.limits c.args.t.now in
-    let Lines : Type 0 =
-    Reached (head_bytes instance) c.args.out.now in
-    let after-transport : Lines =
-    let wrote = line_wrote "transport=" (one c.transport_coefficient.ensures.0) c.write_one-at.ensures in
-    (_, _, _, onward_first (behind-transport instance) c.requires.1 wrote refl) in
-    omega (arith, after-transport.3.room, after-transport.3.long)
-
-pub slice_bounds-write_one-start : goal.slice_bounds-write_one-start
-slice_bounds-write_one-start c =
-    let instance : Instance =
-    instance_in c.args.limits c.args.t.now in
-    let Lines : Type 0 =
-    Reached (head_bytes instance) c.args.out.now in
-    let after-transport : Lines =
-    let wrote = line_wrote "transport=" (one c.transport_coefficient.ensures.0) c.write_one-at.ensures in
-    (_, _, _, onward_first (behind-transport instance) c.requires.1 wrote refl) in
-    omega (arith, after-transport.3.room, after-transport.3.long)
+    (omega (arith, c.requires, first_most (line "transport=" instance.αT) (behind-transport instance) refl))
 
 pub write_one-at-requires-2 : goal.write_one-at-requires-2
 write_one-at-requires-2 c =
     let instance : Instance =
-    instance_in c.args.limits c.args.t.now in
+    instance_in c.args.table.named.limits c.args.table.named.words.now in
     let Lines : Type 0 =
     Reached (head_bytes instance) c.args.out.now in
     let after-transport : Lines =
     let wrote = line_wrote "transport=" (one c.transport_coefficient.ensures.0) c.write_one-at.ensures in
-    (_, _, _, onward_first (behind-transport instance) c.requires.1 wrote refl) in
+    (_, _, _, onward_first (behind-transport instance) c.requires wrote refl) in
     let i = instance in
     line_room "inventory=" (one c.inventory_coefficient.ensures.0) _ (onward_lent after-transport.3 (line "inventory=" i.αI) _ refl)
-
-pub overflow_add-at : goal.overflow_add-at
-overflow_add-at c =
-    let instance : Instance =
-    instance_in c.args.limits c.args.t.now in
-    let Lines : Type 0 =
-    Reached (head_bytes instance) c.args.out.now in
-    let after-transport : Lines =
-    let wrote = line_wrote "transport=" (one c.transport_coefficient.ensures.0) c.write_one-at.ensures in
-    (_, _, _, onward_first (behind-transport instance) c.requires.1 wrote refl) in
-    let after-inventory : Lines =
-    (_, _, _, onward_run after-transport.3 (line_wrote "inventory=" (one c.inventory_coefficient.ensures.0) c.write_one-at-2.ensures) refl) in
-    omega (arith, after-inventory.3.room)
-
-pub slice_bounds-write_one-count-2 : goal.slice_bounds-write_one-count-2
-slice_bounds-write_one-count-2 c =
-    let instance : Instance =
-    instance_in c.args.limits c.args.t.now in
-    let Lines : Type 0 =
-    Reached (head_bytes instance) c.args.out.now in
-    let after-transport : Lines =
-    let wrote = line_wrote "transport=" (one c.transport_coefficient.ensures.0) c.write_one-at.ensures in
-    (_, _, _, onward_first (behind-transport instance) c.requires.1 wrote refl) in
-    let after-inventory : Lines =
-    (_, _, _, onward_run after-transport.3 (line_wrote "inventory=" (one c.inventory_coefficient.ensures.0) c.write_one-at-2.ensures) refl) in
-    omega (arith, after-inventory.3.room, after-inventory.3.long)
-
-pub slice_bounds-write_one-start-2 : goal.slice_bounds-write_one-start-2
-slice_bounds-write_one-start-2 c =
-    let instance : Instance =
-    instance_in c.args.limits c.args.t.now in
-    let Lines : Type 0 =
-    Reached (head_bytes instance) c.args.out.now in
-    let after-transport : Lines =
-    let wrote = line_wrote "transport=" (one c.transport_coefficient.ensures.0) c.write_one-at.ensures in
-    (_, _, _, onward_first (behind-transport instance) c.requires.1 wrote refl) in
-    let after-inventory : Lines =
-    (_, _, _, onward_run after-transport.3 (line_wrote "inventory=" (one c.inventory_coefficient.ensures.0) c.write_one-at-2.ensures) refl) in
-    omega (arith, after-inventory.3.room, after-inventory.3.long)
 
 pub write_one-at-requires-3 : goal.write_one-at-requires-3
 write_one-at-requires-3 c =
     let instance : Instance =
-    instance_in c.args.limits c.args.t.now in
+    instance_in c.args.table.named.limits c.args.table.named.words.now in
     let Lines : Type 0 =
     Reached (head_bytes instance) c.args.out.now in
     let after-transport : Lines =
     let wrote = line_wrote "transport=" (one c.transport_coefficient.ensures.0) c.write_one-at.ensures in
-    (_, _, _, onward_first (behind-transport instance) c.requires.1 wrote refl) in
+    (_, _, _, onward_first (behind-transport instance) c.requires wrote refl) in
     let after-inventory : Lines =
     (_, _, _, onward_run after-transport.3 (line_wrote "inventory=" (one c.inventory_coefficient.ensures.0) c.write_one-at-2.ensures) refl) in
     let i = instance in
     line_room "extra=" (one c.extra_coefficient.ensures.0) _ (onward_lent after-inventory.3 (line "extra=" i.αE) _ refl)
 
-pub overflow_add-at-2 : goal.overflow_add-at-2
-overflow_add-at-2 c =
-    let instance : Instance =
-    instance_in c.args.limits c.args.t.now in
-    let Lines : Type 0 =
-    Reached (head_bytes instance) c.args.out.now in
-    let after-transport : Lines =
-    let wrote = line_wrote "transport=" (one c.transport_coefficient.ensures.0) c.write_one-at.ensures in
-    (_, _, _, onward_first (behind-transport instance) c.requires.1 wrote refl) in
-    let after-inventory : Lines =
-    (_, _, _, onward_run after-transport.3 (line_wrote "inventory=" (one c.inventory_coefficient.ensures.0) c.write_one-at-2.ensures) refl) in
-    let after-extra : Lines =
-    (_, _, _, onward_run after-inventory.3 (line_wrote "extra=" (one c.extra_coefficient.ensures.0) c.write_one-at-3.ensures) refl) in
-    omega (arith, after-extra.3.room)
-
-pub slice_bounds-write_one-count-3 : goal.slice_bounds-write_one-count-3
-slice_bounds-write_one-count-3 c =
-    let instance : Instance =
-    instance_in c.args.limits c.args.t.now in
-    let Lines : Type 0 =
-    Reached (head_bytes instance) c.args.out.now in
-    let after-transport : Lines =
-    let wrote = line_wrote "transport=" (one c.transport_coefficient.ensures.0) c.write_one-at.ensures in
-    (_, _, _, onward_first (behind-transport instance) c.requires.1 wrote refl) in
-    let after-inventory : Lines =
-    (_, _, _, onward_run after-transport.3 (line_wrote "inventory=" (one c.inventory_coefficient.ensures.0) c.write_one-at-2.ensures) refl) in
-    let after-extra : Lines =
-    (_, _, _, onward_run after-inventory.3 (line_wrote "extra=" (one c.extra_coefficient.ensures.0) c.write_one-at-3.ensures) refl) in
-    omega (arith, after-extra.3.room, after-extra.3.long)
-
-pub slice_bounds-write_one-start-3 : goal.slice_bounds-write_one-start-3
-slice_bounds-write_one-start-3 c =
-    let instance : Instance =
-    instance_in c.args.limits c.args.t.now in
-    let Lines : Type 0 =
-    Reached (head_bytes instance) c.args.out.now in
-    let after-transport : Lines =
-    let wrote = line_wrote "transport=" (one c.transport_coefficient.ensures.0) c.write_one-at.ensures in
-    (_, _, _, onward_first (behind-transport instance) c.requires.1 wrote refl) in
-    let after-inventory : Lines =
-    (_, _, _, onward_run after-transport.3 (line_wrote "inventory=" (one c.inventory_coefficient.ensures.0) c.write_one-at-2.ensures) refl) in
-    let after-extra : Lines =
-    (_, _, _, onward_run after-inventory.3 (line_wrote "extra=" (one c.extra_coefficient.ensures.0) c.write_one-at-3.ensures) refl) in
-    omega (arith, after-extra.3.room, after-extra.3.long)
-
 pub write_one-at-requires-4 : goal.write_one-at-requires-4
 write_one-at-requires-4 c =
     let instance : Instance =
-    instance_in c.args.limits c.args.t.now in
+    instance_in c.args.table.named.limits c.args.table.named.words.now in
     let Lines : Type 0 =
     Reached (head_bytes instance) c.args.out.now in
     let after-transport : Lines =
     let wrote = line_wrote "transport=" (one c.transport_coefficient.ensures.0) c.write_one-at.ensures in
-    (_, _, _, onward_first (behind-transport instance) c.requires.1 wrote refl) in
+    (_, _, _, onward_first (behind-transport instance) c.requires wrote refl) in
     let after-inventory : Lines =
     (_, _, _, onward_run after-transport.3 (line_wrote "inventory=" (one c.inventory_coefficient.ensures.0) c.write_one-at-2.ensures) refl) in
     let after-extra : Lines =
@@ -176,69 +70,15 @@ write_one-at-requires-4 c =
     let i = instance in
     line_room "items=" (one c.item_count.ensures.0) _ (onward_lent after-extra.3 (line "items=" (length i.items)) _ refl)
 
-pub overflow_add-at-3 : goal.overflow_add-at-3
-overflow_add-at-3 c =
-    let instance : Instance =
-    instance_in c.args.limits c.args.t.now in
-    let Lines : Type 0 =
-    Reached (head_bytes instance) c.args.out.now in
-    let after-transport : Lines =
-    let wrote = line_wrote "transport=" (one c.transport_coefficient.ensures.0) c.write_one-at.ensures in
-    (_, _, _, onward_first (behind-transport instance) c.requires.1 wrote refl) in
-    let after-inventory : Lines =
-    (_, _, _, onward_run after-transport.3 (line_wrote "inventory=" (one c.inventory_coefficient.ensures.0) c.write_one-at-2.ensures) refl) in
-    let after-extra : Lines =
-    (_, _, _, onward_run after-inventory.3 (line_wrote "extra=" (one c.extra_coefficient.ensures.0) c.write_one-at-3.ensures) refl) in
-    let after_items : Lines =
-    (_, _, _, onward_run after-extra.3 (line_wrote "items=" (one c.item_count.ensures.0) c.write_one-at-4.ensures) refl) in
-    omega (arith, after_items.3.room, c.well_formed)
-
-pub truck_count-requires : goal.truck_count-requires
-truck_count-requires c = c.requires.0
-
-pub slice_bounds-write_one-count-4 : goal.slice_bounds-write_one-count-4
-slice_bounds-write_one-count-4 c =
-    let instance : Instance =
-    instance_in c.args.limits c.args.t.now in
-    let Lines : Type 0 =
-    Reached (head_bytes instance) c.args.out.now in
-    let after-transport : Lines =
-    let wrote = line_wrote "transport=" (one c.transport_coefficient.ensures.0) c.write_one-at.ensures in
-    (_, _, _, onward_first (behind-transport instance) c.requires.1 wrote refl) in
-    let after-inventory : Lines =
-    (_, _, _, onward_run after-transport.3 (line_wrote "inventory=" (one c.inventory_coefficient.ensures.0) c.write_one-at-2.ensures) refl) in
-    let after-extra : Lines =
-    (_, _, _, onward_run after-inventory.3 (line_wrote "extra=" (one c.extra_coefficient.ensures.0) c.write_one-at-3.ensures) refl) in
-    let after_items : Lines =
-    (_, _, _, onward_run after-extra.3 (line_wrote "items=" (one c.item_count.ensures.0) c.write_one-at-4.ensures) refl) in
-    omega (arith, after_items.3.room, after_items.3.long)
-
-pub slice_bounds-write_one-start-4 : goal.slice_bounds-write_one-start-4
-slice_bounds-write_one-start-4 c =
-    let instance : Instance =
-    instance_in c.args.limits c.args.t.now in
-    let Lines : Type 0 =
-    Reached (head_bytes instance) c.args.out.now in
-    let after-transport : Lines =
-    let wrote = line_wrote "transport=" (one c.transport_coefficient.ensures.0) c.write_one-at.ensures in
-    (_, _, _, onward_first (behind-transport instance) c.requires.1 wrote refl) in
-    let after-inventory : Lines =
-    (_, _, _, onward_run after-transport.3 (line_wrote "inventory=" (one c.inventory_coefficient.ensures.0) c.write_one-at-2.ensures) refl) in
-    let after-extra : Lines =
-    (_, _, _, onward_run after-inventory.3 (line_wrote "extra=" (one c.extra_coefficient.ensures.0) c.write_one-at-3.ensures) refl) in
-    let after_items : Lines =
-    (_, _, _, onward_run after-extra.3 (line_wrote "items=" (one c.item_count.ensures.0) c.write_one-at-4.ensures) refl) in
-    omega (arith, after_items.3.room, after_items.3.long)
-
 pub write_one-requires : goal.write_one-requires
 write_one-requires c =
     let instance : Instance =
-    instance_in c.args.limits c.args.t.now in
+    instance_in c.args.table.named.limits c.args.table.named.words.now in
     let Lines : Type 0 =
     Reached (head_bytes instance) c.args.out.now in
     let after-transport : Lines =
     let wrote = line_wrote "transport=" (one c.transport_coefficient.ensures.0) c.write_one-at.ensures in
-    (_, _, _, onward_first (behind-transport instance) c.requires.1 wrote refl) in
+    (_, _, _, onward_first (behind-transport instance) c.requires wrote refl) in
     let after-inventory : Lines =
     (_, _, _, onward_run after-transport.3 (line_wrote "inventory=" (one c.inventory_coefficient.ensures.0) c.write_one-at-2.ensures) refl) in
     let after-extra : Lines =
@@ -247,34 +87,15 @@ write_one-requires c =
     (_, _, _, onward_run after-extra.3 (line_wrote "items=" (one c.item_count.ensures.0) c.write_one-at-4.ensures) refl) in
     line_room "trucks=" (one c.truck_count.ensures.0) _ (onward_lent_last after_items.3)
 
-pub overflow_add-result : goal.overflow_add-result
-overflow_add-result c =
-    let instance : Instance =
-    instance_in c.args.limits c.args.t.now in
-    let Lines : Type 0 =
-    Reached (head_bytes instance) c.args.out.now in
-    let after-transport : Lines =
-    let wrote = line_wrote "transport=" (one c.transport_coefficient.ensures.0) c.write_one-at.ensures in
-    (_, _, _, onward_first (behind-transport instance) c.requires.1 wrote refl) in
-    let after-inventory : Lines =
-    (_, _, _, onward_run after-transport.3 (line_wrote "inventory=" (one c.inventory_coefficient.ensures.0) c.write_one-at-2.ensures) refl) in
-    let after-extra : Lines =
-    (_, _, _, onward_run after-inventory.3 (line_wrote "extra=" (one c.extra_coefficient.ensures.0) c.write_one-at-3.ensures) refl) in
-    let after_items : Lines =
-    (_, _, _, onward_run after-extra.3 (line_wrote "items=" (one c.item_count.ensures.0) c.write_one-at-4.ensures) refl) in
-    let after-trucks : Lines =
-    (_, _, _, onward_last after_items.3 (line_wrote "trucks=" (one c.truck_count.ensures.0) c.write_one.ensures)) in
-    omega (arith, after-trucks.3.room, c.well_formed)
-
 pub returns : goal.returns
 returns c =
     let instance : Instance =
-    instance_in c.args.limits c.args.t.now in
+    instance_in c.args.table.named.limits c.args.table.named.words.now in
     let Lines : Type 0 =
     Reached (head_bytes instance) c.args.out.now in
     let after-transport : Lines =
     let wrote = line_wrote "transport=" (one c.transport_coefficient.ensures.0) c.write_one-at.ensures in
-    (_, _, _, onward_first (behind-transport instance) c.requires.1 wrote refl) in
+    (_, _, _, onward_first (behind-transport instance) c.requires wrote refl) in
     let after-inventory : Lines =
     (_, _, _, onward_run after-transport.3 (line_wrote "inventory=" (one c.inventory_coefficient.ensures.0) c.write_one-at-2.ensures) refl) in
     let after-extra : Lines =

@@ -12,109 +12,39 @@ use Rattle.listing.proofs.write_instance.Goals as goal
 pub write_head-at-requires : goal.write_head-at-requires
 write_head-at-requires c =
     let instance : Instance =
-    instance_in c.args.limits c.args.t.now in
-    (c.requires.0, omega (arith, c.requires.1, first_most (head_bytes instance) _ (instance_parts instance)))
-
-pub slice_bounds-write_items-count : goal.slice_bounds-write_items-count
-slice_bounds-write_items-count c =
-    let instance : Instance =
-    instance_in c.args.limits c.args.t.now in
-    let File : Type 0 =
-    Reached (printed_instance instance) c.args.out.now in
-    let after-head : File =
-    (_, _, _, onward_first _ c.requires.1 c.write_head-at.ensures (instance_parts instance)) in
-    omega (arith, after-head.3.room, after-head.3.long)
-
-pub slice_bounds-write_items-start : goal.slice_bounds-write_items-start
-slice_bounds-write_items-start c =
-    let instance : Instance =
-    instance_in c.args.limits c.args.t.now in
-    let File : Type 0 =
-    Reached (printed_instance instance) c.args.out.now in
-    let after-head : File =
-    (_, _, _, onward_first _ c.requires.1 c.write_head-at.ensures (instance_parts instance)) in
-    omega (arith, after-head.3.room, after-head.3.long)
+    instance_in c.args.table.named.limits c.args.table.named.words.now in
+    (omega (arith, c.requires, first_most (head_bytes instance) _ (instance_parts instance)))
 
 pub write_items-at-requires : goal.write_items-at-requires
 write_items-at-requires c =
     let instance : Instance =
-    instance_in c.args.limits c.args.t.now in
+    instance_in c.args.table.named.limits c.args.table.named.words.now in
     let File : Type 0 =
     Reached (printed_instance instance) c.args.out.now in
     let after-head : File =
-    (_, _, _, onward_first _ c.requires.1 c.write_head-at.ensures (instance_parts instance)) in
-    (c.requires.0, onward_lent after-head.3 (lines_of "item=" instance.items) _ refl)
-
-pub overflow_add-at : goal.overflow_add-at
-overflow_add-at c =
-    let instance : Instance =
-    instance_in c.args.limits c.args.t.now in
-    let File : Type 0 =
-    Reached (printed_instance instance) c.args.out.now in
-    let after-head : File =
-    (_, _, _, onward_first _ c.requires.1 c.write_head-at.ensures (instance_parts instance)) in
-    let after_items : File =
-    (_, _, _, onward_run after-head.3 c.write_items-at.ensures refl) in
-    omega (arith, after_items.3.room)
-
-pub slice_bounds-write_trucks-count : goal.slice_bounds-write_trucks-count
-slice_bounds-write_trucks-count c =
-    let instance : Instance =
-    instance_in c.args.limits c.args.t.now in
-    let File : Type 0 =
-    Reached (printed_instance instance) c.args.out.now in
-    let after-head : File =
-    (_, _, _, onward_first _ c.requires.1 c.write_head-at.ensures (instance_parts instance)) in
-    let after_items : File =
-    (_, _, _, onward_run after-head.3 c.write_items-at.ensures refl) in
-    omega (arith, after_items.3.room, after_items.3.long)
-
-pub slice_bounds-write_trucks-start : goal.slice_bounds-write_trucks-start
-slice_bounds-write_trucks-start c =
-    let instance : Instance =
-    instance_in c.args.limits c.args.t.now in
-    let File : Type 0 =
-    Reached (printed_instance instance) c.args.out.now in
-    let after-head : File =
-    (_, _, _, onward_first _ c.requires.1 c.write_head-at.ensures (instance_parts instance)) in
-    let after_items : File =
-    (_, _, _, onward_run after-head.3 c.write_items-at.ensures refl) in
-    omega (arith, after_items.3.room, after_items.3.long)
+    (_, _, _, onward_first _ c.requires c.write_head-at.ensures (instance_parts instance)) in
+    (onward_lent after-head.3 (lines_of "item=" instance.items) _ refl)
 
 pub write_trucks-requires : goal.write_trucks-requires
 write_trucks-requires c =
     let instance : Instance =
-    instance_in c.args.limits c.args.t.now in
+    instance_in c.args.table.named.limits c.args.table.named.words.now in
     let File : Type 0 =
     Reached (printed_instance instance) c.args.out.now in
     let after-head : File =
-    (_, _, _, onward_first _ c.requires.1 c.write_head-at.ensures (instance_parts instance)) in
+    (_, _, _, onward_first _ c.requires c.write_head-at.ensures (instance_parts instance)) in
     let after_items : File =
     (_, _, _, onward_run after-head.3 c.write_items-at.ensures refl) in
-    (c.requires.0, onward_lent_last after_items.3)
-
-pub overflow_add-result : goal.overflow_add-result
-overflow_add-result c =
-    let instance : Instance =
-    instance_in c.args.limits c.args.t.now in
-    let File : Type 0 =
-    Reached (printed_instance instance) c.args.out.now in
-    let after-head : File =
-    (_, _, _, onward_first _ c.requires.1 c.write_head-at.ensures (instance_parts instance)) in
-    let after_items : File =
-    (_, _, _, onward_run after-head.3 c.write_items-at.ensures refl) in
-    let after-trucks : File =
-    (_, _, _, onward_last after_items.3 c.write_trucks.ensures) in
-    omega (arith, after-trucks.3.room)
+    (onward_lent_last after_items.3)
 
 pub returns : goal.returns
 returns c =
     let instance : Instance =
-    instance_in c.args.limits c.args.t.now in
+    instance_in c.args.table.named.limits c.args.table.named.words.now in
     let File : Type 0 =
     Reached (printed_instance instance) c.args.out.now in
     let after-head : File =
-    (_, _, _, onward_first _ c.requires.1 c.write_head-at.ensures (instance_parts instance)) in
+    (_, _, _, onward_first _ c.requires c.write_head-at.ensures (instance_parts instance)) in
     let after_items : File =
     (_, _, _, onward_run after-head.3 c.write_items-at.ensures refl) in
     let after-trucks : File =

@@ -8,44 +8,27 @@ use Rattle.meaning.specs.Model.{Item}
 use Rattle.meaning.specs.Reorder.{ended}
 use Rattle.meaning.specs.Print.{printed_line}
 use Rattle.meaning.specs.Table.{instance_in}
-use Rattle.printing.proofs.Progress.{Listing, listing_start, listing_lent, listing_next, listing_end}
+use Rattle.printing.proofs.Progress.{Listing, listing_lent, listing_next, listing_end}
 use Rattle.listing.proofs.Lines.{line_room, line_wrote, numbered}
 use Rattle.listing.proofs.write_items.Goals as goal
 
 abbrev line : List ℕ → List ℕ
 line ns = ended (printed_line "item=" ns)
 
-pub loop-n-init : goal.loop-n-init
-loop-n-init c = listing_start _ _ _ c.requires.1
-
 pub write_line-at-requires : goal.write_line-at-requires
 write_line-at-requires c =
     let items : List Item =
-    let a = c.args in (instance_in a.limits a.t.now).items in
+    let a = c.args in (instance_in a.table.named.limits a.table.named.words.now).items in
     let within : c.loop-n.n < length items =
     omega arith in
     let fields-are : c.item_fields.result.now ≡ get_or items c.loop-n.n [] =
     c.item_fields.ensures.0 ∙ numbered items [] c.loop-n.n in
     (omega arith, line_room "item=" fields-are _ (listing_lent c.loop-n.invariant [] within))
 
-pub overflow_add-at : goal.overflow_add-at
-overflow_add-at c =
-    let items : List Item =
-    let a = c.args in (instance_in a.limits a.t.now).items in
-    let After : Type 0 =
-    (out : List ℕ) × (at : ℕ) × Listing line items c.args.out.now out at (c.loop-n.n + 1) in
-    let within : c.loop-n.n < length items =
-    omega arith in
-    let fields-are : c.item_fields.result.now ≡ get_or items c.loop-n.n [] =
-    c.item_fields.ensures.0 ∙ numbered items [] c.loop-n.n in
-    let after-item : After =
-    (_, _, listing_next c.loop-n.invariant [] within (line_wrote "item=" fields-are c.write_line-at.ensures)) in
-    omega (arith, after-item.2.onward.room)
-
 pub loop-n-preserved : goal.loop-n-preserved
 loop-n-preserved c =
     let items : List Item =
-    let a = c.args in (instance_in a.limits a.t.now).items in
+    let a = c.args in (instance_in a.table.named.limits a.table.named.words.now).items in
     let After : Type 0 =
     (out : List ℕ) × (at : ℕ) × Listing line items c.args.out.now out at (c.loop-n.n + 1) in
     let within : c.loop-n.n < length items =

@@ -19,59 +19,27 @@ count p = ended (printed_line "stacks=" (length p ∷ []))
 pub write_one-at-requires : goal.write_one-at-requires
 write_one-at-requires c =
     let stacks : List Stack =
-    stacks_in c.args.limits c.args.t.now in
-    line_room "stacks=" (one c.stack_count.ensures.0) _ (omega (arith, c.requires.1, first_most (count stacks) _ (plan_parts stacks)))
-
-pub slice_bounds-write_stacks-count : goal.slice_bounds-write_stacks-count
-slice_bounds-write_stacks-count c =
-    let stacks : List Stack =
-    stacks_in c.args.limits c.args.t.now in
-    let File : Type 0 =
-    Reached (printed_plan stacks) c.args.out.now in
-    let after-count : File =
-    (_, _, _, onward_first _ c.requires.1 (line_wrote "stacks=" (one c.stack_count.ensures.0) c.write_one-at.ensures) (plan_parts stacks)) in
-    omega (arith, after-count.3.room, after-count.3.long)
-
-pub slice_bounds-write_stacks-start : goal.slice_bounds-write_stacks-start
-slice_bounds-write_stacks-start c =
-    let stacks : List Stack =
-    stacks_in c.args.limits c.args.t.now in
-    let File : Type 0 =
-    Reached (printed_plan stacks) c.args.out.now in
-    let after-count : File =
-    (_, _, _, onward_first _ c.requires.1 (line_wrote "stacks=" (one c.stack_count.ensures.0) c.write_one-at.ensures) (plan_parts stacks)) in
-    omega (arith, after-count.3.room, after-count.3.long)
+    stacks_in c.args.table.named.limits c.args.table.named.words.now in
+    line_room "stacks=" (one c.stack_count.ensures.0) _ (omega (arith, c.requires, first_most (count stacks) _ (plan_parts stacks)))
 
 pub write_stacks-requires : goal.write_stacks-requires
 write_stacks-requires c =
     let stacks : List Stack =
-    stacks_in c.args.limits c.args.t.now in
+    stacks_in c.args.table.named.limits c.args.table.named.words.now in
     let File : Type 0 =
     Reached (printed_plan stacks) c.args.out.now in
     let after-count : File =
-    (_, _, _, onward_first _ c.requires.1 (line_wrote "stacks=" (one c.stack_count.ensures.0) c.write_one-at.ensures) (plan_parts stacks)) in
-    (c.requires.0, onward_lent_last after-count.3)
-
-pub overflow_add-result : goal.overflow_add-result
-overflow_add-result c =
-    let stacks : List Stack =
-    stacks_in c.args.limits c.args.t.now in
-    let File : Type 0 =
-    Reached (printed_plan stacks) c.args.out.now in
-    let after-count : File =
-    (_, _, _, onward_first _ c.requires.1 (line_wrote "stacks=" (one c.stack_count.ensures.0) c.write_one-at.ensures) (plan_parts stacks)) in
-    let after-stacks : File =
-    (_, _, _, onward_last after-count.3 c.write_stacks.ensures) in
-    omega (arith, after-stacks.3.room)
+    (_, _, _, onward_first _ c.requires (line_wrote "stacks=" (one c.stack_count.ensures.0) c.write_one-at.ensures) (plan_parts stacks)) in
+    (onward_lent_last after-count.3)
 
 pub returns : goal.returns
 returns c =
     let stacks : List Stack =
-    stacks_in c.args.limits c.args.t.now in
+    stacks_in c.args.table.named.limits c.args.table.named.words.now in
     let File : Type 0 =
     Reached (printed_plan stacks) c.args.out.now in
     let after-count : File =
-    (_, _, _, onward_first _ c.requires.1 (line_wrote "stacks=" (one c.stack_count.ensures.0) c.write_one-at.ensures) (plan_parts stacks)) in
+    (_, _, _, onward_first _ c.requires (line_wrote "stacks=" (one c.stack_count.ensures.0) c.write_one-at.ensures) (plan_parts stacks)) in
     let after-stacks : File =
     (_, _, _, onward_last after-count.3 c.write_stacks.ensures) in
     onward_end after-stacks.3 refl

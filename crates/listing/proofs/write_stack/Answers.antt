@@ -16,74 +16,36 @@ use Rattle.listing.proofs.write_stack.Goals as goal
 pub write_line-at-requires : goal.write_line-at-requires
 write_line-at-requires c =
     let stack : Stack =
-    let a = c.args in stack_at (stacks_in a.limits a.t.now) a.s in
+    let a = c.args in stack_at (stacks_in a.table.named.limits a.table.named.words.now) a.s in
     let first : List ℕ =
     ended (printed_line "stack=" stack.fields) in
     let second : List ℕ =
     ended (printed_line "load=" stack.load) in
-    let whole = c.requires.2 in
+    let whole = c.requires.1 in
     (omega arith, line_room "stack=" c.stack_fields.ensures.0 _ (omega (arith, whole, first_most first second refl)))
-
-pub slice_bounds-write_line-count : goal.slice_bounds-write_line-count
-slice_bounds-write_line-count c =
-    let stack : Stack =
-    let a = c.args in stack_at (stacks_in a.limits a.t.now) a.s in
-    let Lines : Type 0 =
-    Reached (stack_bytes stack) c.args.out.now in
-    let second : List ℕ =
-    ended (printed_line "load=" stack.load) in
-    let after-fields : Lines =
-    (_, _, _, onward_first second c.requires.2 (line_wrote "stack=" c.stack_fields.ensures.0 c.write_line-at.ensures) refl) in
-    let o = after-fields.3 in omega (arith, o.room, o.long)
-
-pub slice_bounds-write_line-start : goal.slice_bounds-write_line-start
-slice_bounds-write_line-start c =
-    let stack : Stack =
-    let a = c.args in stack_at (stacks_in a.limits a.t.now) a.s in
-    let Lines : Type 0 =
-    Reached (stack_bytes stack) c.args.out.now in
-    let second : List ℕ =
-    ended (printed_line "load=" stack.load) in
-    let after-fields : Lines =
-    (_, _, _, onward_first second c.requires.2 (line_wrote "stack=" c.stack_fields.ensures.0 c.write_line-at.ensures) refl) in
-    let o = after-fields.3 in omega (arith, o.room, o.long)
 
 pub write_line-requires : goal.write_line-requires
 write_line-requires c =
     let stack : Stack =
-    let a = c.args in stack_at (stacks_in a.limits a.t.now) a.s in
+    let a = c.args in stack_at (stacks_in a.table.named.limits a.table.named.words.now) a.s in
     let Lines : Type 0 =
     Reached (stack_bytes stack) c.args.out.now in
     let second : List ℕ =
     ended (printed_line "load=" stack.load) in
     let after-fields : Lines =
-    (_, _, _, onward_first second c.requires.2 (line_wrote "stack=" c.stack_fields.ensures.0 c.write_line-at.ensures) refl) in
+    (_, _, _, onward_first second c.requires.1 (line_wrote "stack=" c.stack_fields.ensures.0 c.write_line-at.ensures) refl) in
     (c.load.ensures.1.some, line_room "load=" c.load.ensures.0 _ (onward_lent_last after-fields.3))
-
-pub overflow_add-result : goal.overflow_add-result
-overflow_add-result c =
-    let stack : Stack =
-    let a = c.args in stack_at (stacks_in a.limits a.t.now) a.s in
-    let Lines : Type 0 =
-    Reached (stack_bytes stack) c.args.out.now in
-    let second : List ℕ =
-    ended (printed_line "load=" stack.load) in
-    let after-fields : Lines =
-    (_, _, _, onward_first second c.requires.2 (line_wrote "stack=" c.stack_fields.ensures.0 c.write_line-at.ensures) refl) in
-    let after-load : Lines =
-    (_, _, _, onward_last after-fields.3 (line_wrote "load=" c.load.ensures.0 c.write_line.ensures)) in
-    omega (arith, after-load.3.room)
 
 pub returns : goal.returns
 returns c =
     let stack : Stack =
-    let a = c.args in stack_at (stacks_in a.limits a.t.now) a.s in
+    let a = c.args in stack_at (stacks_in a.table.named.limits a.table.named.words.now) a.s in
     let Lines : Type 0 =
     Reached (stack_bytes stack) c.args.out.now in
     let second : List ℕ =
     ended (printed_line "load=" stack.load) in
     let after-fields : Lines =
-    (_, _, _, onward_first second c.requires.2 (line_wrote "stack=" c.stack_fields.ensures.0 c.write_line-at.ensures) refl) in
+    (_, _, _, onward_first second c.requires.1 (line_wrote "stack=" c.stack_fields.ensures.0 c.write_line-at.ensures) refl) in
     let after-load : Lines =
     (_, _, _, onward_last after-fields.3 (line_wrote "load=" c.load.ensures.0 c.write_line.ensures)) in
     onward_end after-load.3 refl

@@ -1,12 +1,8 @@
 -- `listing::write_stacks`: the stacks from the next one on are still to be written.
-use Prim.Native.Nat.{◌-◌}
 use Rattle.meaning.specs.Table.{stacks_in}
 use Rattle.printing.proofs.Progress.{Listing}
 use Rattle.listing.specs.Parts.{stack_bytes}
 use Rattle.listing.proofs.write_stacks.Given as goal
 
 abbrev pub invariant-loop-s : goal.invariant-loop-s
-invariant-loop-s l = Listing stack_bytes (stacks_in l.limits l.t) l.initial.out l.out l.at l.s
-
-abbrev pub decreases-loop-s : goal.decreases-loop-s
-decreases-loop-s l = l.count - l.s
+invariant-loop-s l = Listing stack_bytes (stacks_in l.table.named.limits l.table.named.words.now) l.initial.out l.out l.at l.s

@@ -16,213 +16,64 @@ use Rattle.listing.proofs.write_truck.Goals as goal
 pub write_line-at-requires : goal.write_line-at-requires
 write_line-at-requires c =
     let truck : Truck =
-    truck_numbered (instance_in c.args.limits c.args.t.now) c.args.n in
+    truck_numbered (instance_in c.args.table.named.limits c.args.table.named.words.now) c.args.n in
     let meets : TruckMeets truck =
-    truck_in_lem c.requires.0 c.args.n c.requires.1 in
+    truck_in_lem c.args.table.filled c.args.n c.requires.0 in
     line_asks "truck=" c.truck_fields.ensures.0 _ (omega (arith, meets.fields.least))
-    (omega (arith, c.requires.2, first_most (ended (printed_line "truck=" truck.fields)) _ (truck_parts truck)))
-
-pub slice_bounds-write_line-count : goal.slice_bounds-write_line-count
-slice_bounds-write_line-count c =
-    let truck : Truck =
-    truck_numbered (instance_in c.args.limits c.args.t.now) c.args.n in
-    let Lines : Type 0 =
-    Reached (printed_truck truck) c.args.out.now in
-    let after-fields : Lines =
-    (_, _, _, onward_first _ c.requires.2 (line_wrote "truck=" c.truck_fields.ensures.0 c.write_line-at.ensures) (truck_parts truck)) in
-    omega (arith, after-fields.3.room, after-fields.3.long)
-
-pub slice_bounds-write_line-start : goal.slice_bounds-write_line-start
-slice_bounds-write_line-start c =
-    let truck : Truck =
-    truck_numbered (instance_in c.args.limits c.args.t.now) c.args.n in
-    let Lines : Type 0 =
-    Reached (printed_truck truck) c.args.out.now in
-    let after-fields : Lines =
-    (_, _, _, onward_first _ c.requires.2 (line_wrote "truck=" c.truck_fields.ensures.0 c.write_line-at.ensures) (truck_parts truck)) in
-    omega (arith, after-fields.3.room, after-fields.3.long)
+    (omega (arith, c.requires.1, first_most (ended (printed_line "truck=" truck.fields)) _ (truck_parts truck)))
 
 pub write_line-at-requires-2 : goal.write_line-at-requires-2
 write_line-at-requires-2 c =
     let truck : Truck =
-    truck_numbered (instance_in c.args.limits c.args.t.now) c.args.n in
+    truck_numbered (instance_in c.args.table.named.limits c.args.table.named.words.now) c.args.n in
     let meets : TruckMeets truck =
-    truck_in_lem c.requires.0 c.args.n c.requires.1 in
+    truck_in_lem c.args.table.filled c.args.n c.requires.0 in
     let Lines : Type 0 =
     Reached (printed_truck truck) c.args.out.now in
     let after-fields : Lines =
-    (_, _, _, onward_first _ c.requires.2 (line_wrote "truck=" c.truck_fields.ensures.0 c.write_line-at.ensures) (truck_parts truck)) in
+    (_, _, _, onward_first _ c.requires.1 (line_wrote "truck=" c.truck_fields.ensures.0 c.write_line-at.ensures) (truck_parts truck)) in
     line_asks "products=" c.products.ensures.0 _ meets.products.least
     (onward_lent after-fields.3 (ended (printed_line "products=" truck.products)) _ refl)
-
-pub overflow_add-at : goal.overflow_add-at
-overflow_add-at c =
-    let truck : Truck =
-    truck_numbered (instance_in c.args.limits c.args.t.now) c.args.n in
-    let Lines : Type 0 =
-    Reached (printed_truck truck) c.args.out.now in
-    let after-fields : Lines =
-    (_, _, _, onward_first _ c.requires.2 (line_wrote "truck=" c.truck_fields.ensures.0 c.write_line-at.ensures) (truck_parts truck)) in
-    let after-products : Lines =
-    (_, _, _, onward_run after-fields.3 (line_wrote "products=" c.products.ensures.0 c.write_line-at-2.ensures) refl) in
-    omega (arith, after-products.3.room)
-
-pub slice_bounds-write_line-count-2 : goal.slice_bounds-write_line-count-2
-slice_bounds-write_line-count-2 c =
-    let truck : Truck =
-    truck_numbered (instance_in c.args.limits c.args.t.now) c.args.n in
-    let Lines : Type 0 =
-    Reached (printed_truck truck) c.args.out.now in
-    let after-fields : Lines =
-    (_, _, _, onward_first _ c.requires.2 (line_wrote "truck=" c.truck_fields.ensures.0 c.write_line-at.ensures) (truck_parts truck)) in
-    let after-products : Lines =
-    (_, _, _, onward_run after-fields.3 (line_wrote "products=" c.products.ensures.0 c.write_line-at-2.ensures) refl) in
-    omega (arith, after-products.3.room, after-products.3.long)
-
-pub slice_bounds-write_line-start-2 : goal.slice_bounds-write_line-start-2
-slice_bounds-write_line-start-2 c =
-    let truck : Truck =
-    truck_numbered (instance_in c.args.limits c.args.t.now) c.args.n in
-    let Lines : Type 0 =
-    Reached (printed_truck truck) c.args.out.now in
-    let after-fields : Lines =
-    (_, _, _, onward_first _ c.requires.2 (line_wrote "truck=" c.truck_fields.ensures.0 c.write_line-at.ensures) (truck_parts truck)) in
-    let after-products : Lines =
-    (_, _, _, onward_run after-fields.3 (line_wrote "products=" c.products.ensures.0 c.write_line-at-2.ensures) refl) in
-    omega (arith, after-products.3.room, after-products.3.long)
 
 pub write_line-at-requires-3 : goal.write_line-at-requires-3
 write_line-at-requires-3 c =
     let truck : Truck =
-    truck_numbered (instance_in c.args.limits c.args.t.now) c.args.n in
+    truck_numbered (instance_in c.args.table.named.limits c.args.table.named.words.now) c.args.n in
     let meets : TruckMeets truck =
-    truck_in_lem c.requires.0 c.args.n c.requires.1 in
+    truck_in_lem c.args.table.filled c.args.n c.requires.0 in
     let Lines : Type 0 =
     Reached (printed_truck truck) c.args.out.now in
     let after-fields : Lines =
-    (_, _, _, onward_first _ c.requires.2 (line_wrote "truck=" c.truck_fields.ensures.0 c.write_line-at.ensures) (truck_parts truck)) in
+    (_, _, _, onward_first _ c.requires.1 (line_wrote "truck=" c.truck_fields.ensures.0 c.write_line-at.ensures) (truck_parts truck)) in
     let after-products : Lines =
     (_, _, _, onward_run after-fields.3 (line_wrote "products=" c.products.ensures.0 c.write_line-at-2.ensures) refl) in
     line_asks "suppliers=" c.suppliers.ensures.0 _ meets.suppliers.least
     (onward_lent after-products.3 (ended (printed_line "suppliers=" truck.suppliers)) _ refl)
 
-pub overflow_add-at-2 : goal.overflow_add-at-2
-overflow_add-at-2 c =
-    let truck : Truck =
-    truck_numbered (instance_in c.args.limits c.args.t.now) c.args.n in
-    let Lines : Type 0 =
-    Reached (printed_truck truck) c.args.out.now in
-    let after-fields : Lines =
-    (_, _, _, onward_first _ c.requires.2 (line_wrote "truck=" c.truck_fields.ensures.0 c.write_line-at.ensures) (truck_parts truck)) in
-    let after-products : Lines =
-    (_, _, _, onward_run after-fields.3 (line_wrote "products=" c.products.ensures.0 c.write_line-at-2.ensures) refl) in
-    let after-suppliers : Lines =
-    (_, _, _, onward_run after-products.3 (line_wrote "suppliers=" c.suppliers.ensures.0 c.write_line-at-3.ensures) refl) in
-    omega (arith, after-suppliers.3.room, c.well_formed)
-
-pub slice_bounds-write_docks-count : goal.slice_bounds-write_docks-count
-slice_bounds-write_docks-count c =
-    let truck : Truck =
-    truck_numbered (instance_in c.args.limits c.args.t.now) c.args.n in
-    let Lines : Type 0 =
-    Reached (printed_truck truck) c.args.out.now in
-    let after-fields : Lines =
-    (_, _, _, onward_first _ c.requires.2 (line_wrote "truck=" c.truck_fields.ensures.0 c.write_line-at.ensures) (truck_parts truck)) in
-    let after-products : Lines =
-    (_, _, _, onward_run after-fields.3 (line_wrote "products=" c.products.ensures.0 c.write_line-at-2.ensures) refl) in
-    let after-suppliers : Lines =
-    (_, _, _, onward_run after-products.3 (line_wrote "suppliers=" c.suppliers.ensures.0 c.write_line-at-3.ensures) refl) in
-    omega (arith, after-suppliers.3.room, after-suppliers.3.long)
-
-pub slice_bounds-write_docks-start : goal.slice_bounds-write_docks-start
-slice_bounds-write_docks-start c =
-    let truck : Truck =
-    truck_numbered (instance_in c.args.limits c.args.t.now) c.args.n in
-    let Lines : Type 0 =
-    Reached (printed_truck truck) c.args.out.now in
-    let after-fields : Lines =
-    (_, _, _, onward_first _ c.requires.2 (line_wrote "truck=" c.truck_fields.ensures.0 c.write_line-at.ensures) (truck_parts truck)) in
-    let after-products : Lines =
-    (_, _, _, onward_run after-fields.3 (line_wrote "products=" c.products.ensures.0 c.write_line-at-2.ensures) refl) in
-    let after-suppliers : Lines =
-    (_, _, _, onward_run after-products.3 (line_wrote "suppliers=" c.suppliers.ensures.0 c.write_line-at-3.ensures) refl) in
-    omega (arith, after-suppliers.3.room, after-suppliers.3.long)
-
 pub write_docks-at-requires : goal.write_docks-at-requires
 write_docks-at-requires c =
     let truck : Truck =
-    truck_numbered (instance_in c.args.limits c.args.t.now) c.args.n in
+    truck_numbered (instance_in c.args.table.named.limits c.args.table.named.words.now) c.args.n in
     let Lines : Type 0 =
     Reached (printed_truck truck) c.args.out.now in
     let after-fields : Lines =
-    (_, _, _, onward_first _ c.requires.2 (line_wrote "truck=" c.truck_fields.ensures.0 c.write_line-at.ensures) (truck_parts truck)) in
+    (_, _, _, onward_first _ c.requires.1 (line_wrote "truck=" c.truck_fields.ensures.0 c.write_line-at.ensures) (truck_parts truck)) in
     let after-products : Lines =
     (_, _, _, onward_run after-fields.3 (line_wrote "products=" c.products.ensures.0 c.write_line-at-2.ensures) refl) in
     let after-suppliers : Lines =
     (_, _, _, onward_run after-products.3 (line_wrote "suppliers=" c.suppliers.ensures.0 c.write_line-at-3.ensures) refl) in
-    (c.requires.0, c.requires.1, onward_lent after-suppliers.3 (lines_of "docks=" truck.docks) _ refl)
-
-pub overflow_add-at-3 : goal.overflow_add-at-3
-overflow_add-at-3 c =
-    let truck : Truck =
-    truck_numbered (instance_in c.args.limits c.args.t.now) c.args.n in
-    let Lines : Type 0 =
-    Reached (printed_truck truck) c.args.out.now in
-    let after-fields : Lines =
-    (_, _, _, onward_first _ c.requires.2 (line_wrote "truck=" c.truck_fields.ensures.0 c.write_line-at.ensures) (truck_parts truck)) in
-    let after-products : Lines =
-    (_, _, _, onward_run after-fields.3 (line_wrote "products=" c.products.ensures.0 c.write_line-at-2.ensures) refl) in
-    let after-suppliers : Lines =
-    (_, _, _, onward_run after-products.3 (line_wrote "suppliers=" c.suppliers.ensures.0 c.write_line-at-3.ensures) refl) in
-    let after-docks : Lines =
-    (_, _, _, onward_run after-suppliers.3 c.write_docks-at.ensures refl) in
-    omega (arith, after-docks.3.room, c.well_formed)
-
-pub plant_docks-requires : goal.plant_docks-requires
-plant_docks-requires c = (c.requires.0, c.requires.1)
-
-pub slice_bounds-write_line-count-3 : goal.slice_bounds-write_line-count-3
-slice_bounds-write_line-count-3 c =
-    let truck : Truck =
-    truck_numbered (instance_in c.args.limits c.args.t.now) c.args.n in
-    let Lines : Type 0 =
-    Reached (printed_truck truck) c.args.out.now in
-    let after-fields : Lines =
-    (_, _, _, onward_first _ c.requires.2 (line_wrote "truck=" c.truck_fields.ensures.0 c.write_line-at.ensures) (truck_parts truck)) in
-    let after-products : Lines =
-    (_, _, _, onward_run after-fields.3 (line_wrote "products=" c.products.ensures.0 c.write_line-at-2.ensures) refl) in
-    let after-suppliers : Lines =
-    (_, _, _, onward_run after-products.3 (line_wrote "suppliers=" c.suppliers.ensures.0 c.write_line-at-3.ensures) refl) in
-    let after-docks : Lines =
-    (_, _, _, onward_run after-suppliers.3 c.write_docks-at.ensures refl) in
-    omega (arith, after-docks.3.room, after-docks.3.long)
-
-pub slice_bounds-write_line-start-3 : goal.slice_bounds-write_line-start-3
-slice_bounds-write_line-start-3 c =
-    let truck : Truck =
-    truck_numbered (instance_in c.args.limits c.args.t.now) c.args.n in
-    let Lines : Type 0 =
-    Reached (printed_truck truck) c.args.out.now in
-    let after-fields : Lines =
-    (_, _, _, onward_first _ c.requires.2 (line_wrote "truck=" c.truck_fields.ensures.0 c.write_line-at.ensures) (truck_parts truck)) in
-    let after-products : Lines =
-    (_, _, _, onward_run after-fields.3 (line_wrote "products=" c.products.ensures.0 c.write_line-at-2.ensures) refl) in
-    let after-suppliers : Lines =
-    (_, _, _, onward_run after-products.3 (line_wrote "suppliers=" c.suppliers.ensures.0 c.write_line-at-3.ensures) refl) in
-    let after-docks : Lines =
-    (_, _, _, onward_run after-suppliers.3 c.write_docks-at.ensures refl) in
-    omega (arith, after-docks.3.room, after-docks.3.long)
+    (c.requires.0, onward_lent after-suppliers.3 (lines_of "docks=" truck.docks) _ refl)
 
 pub write_line-requires : goal.write_line-requires
 write_line-requires c =
     let truck : Truck =
-    truck_numbered (instance_in c.args.limits c.args.t.now) c.args.n in
+    truck_numbered (instance_in c.args.table.named.limits c.args.table.named.words.now) c.args.n in
     let meets : TruckMeets truck =
-    truck_in_lem c.requires.0 c.args.n c.requires.1 in
+    truck_in_lem c.args.table.filled c.args.n c.requires.0 in
     let Lines : Type 0 =
     Reached (printed_truck truck) c.args.out.now in
     let after-fields : Lines =
-    (_, _, _, onward_first _ c.requires.2 (line_wrote "truck=" c.truck_fields.ensures.0 c.write_line-at.ensures) (truck_parts truck)) in
+    (_, _, _, onward_first _ c.requires.1 (line_wrote "truck=" c.truck_fields.ensures.0 c.write_line-at.ensures) (truck_parts truck)) in
     let after-products : Lines =
     (_, _, _, onward_run after-fields.3 (line_wrote "products=" c.products.ensures.0 c.write_line-at-2.ensures) refl) in
     let after-suppliers : Lines =
@@ -231,32 +82,14 @@ write_line-requires c =
     (_, _, _, onward_run after-suppliers.3 c.write_docks-at.ensures refl) in
     line_asks "plantdocks=" c.plant_docks.ensures.0 _ meets.plant_docks.least (onward_lent_last after-docks.3)
 
-pub overflow_add-result : goal.overflow_add-result
-overflow_add-result c =
-    let truck : Truck =
-    truck_numbered (instance_in c.args.limits c.args.t.now) c.args.n in
-    let Lines : Type 0 =
-    Reached (printed_truck truck) c.args.out.now in
-    let after-fields : Lines =
-    (_, _, _, onward_first _ c.requires.2 (line_wrote "truck=" c.truck_fields.ensures.0 c.write_line-at.ensures) (truck_parts truck)) in
-    let after-products : Lines =
-    (_, _, _, onward_run after-fields.3 (line_wrote "products=" c.products.ensures.0 c.write_line-at-2.ensures) refl) in
-    let after-suppliers : Lines =
-    (_, _, _, onward_run after-products.3 (line_wrote "suppliers=" c.suppliers.ensures.0 c.write_line-at-3.ensures) refl) in
-    let after-docks : Lines =
-    (_, _, _, onward_run after-suppliers.3 c.write_docks-at.ensures refl) in
-    let after-plant-docks : Lines =
-    (_, _, _, onward_last after-docks.3 (line_wrote "plantdocks=" c.plant_docks.ensures.0 c.write_line.ensures)) in
-    omega (arith, after-plant-docks.3.room, c.well_formed)
-
 pub returns : goal.returns
 returns c =
     let truck : Truck =
-    truck_numbered (instance_in c.args.limits c.args.t.now) c.args.n in
+    truck_numbered (instance_in c.args.table.named.limits c.args.table.named.words.now) c.args.n in
     let Lines : Type 0 =
     Reached (printed_truck truck) c.args.out.now in
     let after-fields : Lines =
-    (_, _, _, onward_first _ c.requires.2 (line_wrote "truck=" c.truck_fields.ensures.0 c.write_line-at.ensures) (truck_parts truck)) in
+    (_, _, _, onward_first _ c.requires.1 (line_wrote "truck=" c.truck_fields.ensures.0 c.write_line-at.ensures) (truck_parts truck)) in
     let after-products : Lines =
     (_, _, _, onward_run after-fields.3 (line_wrote "products=" c.products.ensures.0 c.write_line-at-2.ensures) refl) in
     let after-suppliers : Lines =

@@ -7,41 +7,24 @@ use lib.ListN.{length, get_or}
 use Rattle.meaning.specs.Model.{Truck, no_truck}
 use Rattle.meaning.specs.Print.{printed_truck}
 use Rattle.meaning.specs.Table.{instance_in}
-use Rattle.printing.proofs.Progress.{Listing, listing_start, listing_lent, listing_next, listing_end}
+use Rattle.printing.proofs.Progress.{Listing, listing_lent, listing_next, listing_end}
 use Rattle.listing.proofs.Lines.{numbered}
 use Rattle.listing.proofs.write_trucks.Goals as goal
-
-pub loop-n-init : goal.loop-n-init
-loop-n-init c = listing_start _ _ _ c.requires.1
 
 pub write_truck-at-requires : goal.write_truck-at-requires
 write_truck-at-requires c =
     let trucks : List Truck =
-    let a = c.args in (instance_in a.limits a.t.now).trucks in
+    let a = c.args in (instance_in a.table.named.limits a.table.named.words.now).trucks in
     let within : c.loop-n.n < length trucks =
     omega arith in
     let this-truck : get_or trucks (c.loop-n.n + 1 - 1) no_truck ≡ get_or trucks c.loop-n.n no_truck =
     numbered trucks no_truck c.loop-n.n in
-    (c.requires.0, omega (arith, within), rw this-truck (listing_lent c.loop-n.invariant no_truck within))
-
-pub overflow_add-at : goal.overflow_add-at
-overflow_add-at c =
-    let trucks : List Truck =
-    let a = c.args in (instance_in a.limits a.t.now).trucks in
-    let After : Type 0 =
-    (out : List ℕ) × (at : ℕ) × Listing printed_truck trucks c.args.out.now out at (c.loop-n.n + 1) in
-    let within : c.loop-n.n < length trucks =
-    omega arith in
-    let this-truck : get_or trucks (c.loop-n.n + 1 - 1) no_truck ≡ get_or trucks c.loop-n.n no_truck =
-    numbered trucks no_truck c.loop-n.n in
-    let after-truck : After =
-    (_, _, listing_next c.loop-n.invariant no_truck within (rw this-truck at c.write_truck-at.ensures)) in
-    omega (arith, after-truck.2.onward.room)
+    (omega (arith, within), rw this-truck (listing_lent c.loop-n.invariant no_truck within))
 
 pub loop-n-preserved : goal.loop-n-preserved
 loop-n-preserved c =
     let trucks : List Truck =
-    let a = c.args in (instance_in a.limits a.t.now).trucks in
+    let a = c.args in (instance_in a.table.named.limits a.table.named.words.now).trucks in
     let After : Type 0 =
     (out : List ℕ) × (at : ℕ) × Listing printed_truck trucks c.args.out.now out at (c.loop-n.n + 1) in
     let within : c.loop-n.n < length trucks =

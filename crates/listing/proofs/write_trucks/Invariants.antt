@@ -1,12 +1,8 @@
 -- `listing::write_trucks`: the trucks from the next one on are still to be written.
-use Prim.Native.Nat.{◌-◌}
 use Rattle.meaning.specs.Print.{printed_truck}
 use Rattle.meaning.specs.Table.{instance_in}
 use Rattle.printing.proofs.Progress.{Listing}
 use Rattle.listing.proofs.write_trucks.Given as goal
 
 abbrev pub invariant-loop-n : goal.invariant-loop-n
-invariant-loop-n l = Listing printed_truck (instance_in l.limits l.t).trucks l.initial.out l.out l.at l.n
-
-abbrev pub decreases-loop-n : goal.decreases-loop-n
-decreases-loop-n l = l.count - l.n
+invariant-loop-n l = Listing printed_truck (instance_in l.table.named.limits l.table.named.words.now).trucks l.initial.out l.out l.at l.n

@@ -4,6 +4,3 @@ use Rattle.pairrules.proofs.block_at.Goals as goal
 
 pub returns-then-on-a : goal.returns-then-on-a
 returns-then-on-a c = block_kept c.requires.2 c.if-on-a.true
-
-pub returns : goal.returns
-returns c = record { before = c.truck_start.ensures; behind = c.truck_end.ensures }

@@ -1,21 +1,14 @@
 -- `pairrules::first_pair`: the stacks and their partners are taken by ascending number, so the first broken pair is the lowest; what is not asked has been.
 use mathlib.Core.Path.{◌≡◌}
-use Prim.Native.Nat.{◌-◌}
 use lib.ListN.{length}
 use Rattle.meaning.specs.Table.{stacks_in}
-use Rattle.search.specs.declared.Found.TheVariants.{Nothing}
+use Rattle.std.specs.Prelude.{None}
 use Rattle.pairrules.specs.PairRules.{KnownBlock}
 use Rattle.pairrules.proofs.Search.{StacksPassed, PartnersPassed}
 use Rattle.pairrules.proofs.first_pair.Given as goal
 
 abbrev pub invariant-loop-b : goal.invariant-loop-b
-invariant-loop-b l = StacksPassed l.rule l.limits l.t l.rows l.by_number l.k × PartnersPassed l.rule l.limits l.t l.rows l.by_number l.k l.a l.on l.b × (l.found ≡ Nothing)
-
-abbrev pub decreases-loop-b : goal.decreases-loop-b
-decreases-loop-b l = l.on.end - l.b
+invariant-loop-b l = StacksPassed l.rule l.manifest.table.named.limits l.manifest.table.named.words.now l.manifest.rows.now l.by_number l.k × PartnersPassed l.rule l.manifest.table.named.limits l.manifest.table.named.words.now l.manifest.rows.now l.by_number l.k l.a l.on l.b × (l.found ≡ None)
 
 abbrev pub invariant-search : goal.invariant-search
-invariant-search l = StacksPassed l.rule l.limits l.t l.rows l.by_number l.k × KnownBlock l.rows (length (stacks_in l.limits l.t)) l.on × (l.found ≡ Nothing)
-
-abbrev pub decreases-search : goal.decreases-search
-decreases-search l = l.count - l.k
+invariant-search l = StacksPassed l.rule l.manifest.table.named.limits l.manifest.table.named.words.now l.manifest.rows.now l.by_number l.k × KnownBlock l.manifest.rows.now (length (stacks_in l.manifest.table.named.limits l.manifest.table.named.words.now)) l.on × (l.found ≡ None)

@@ -7,21 +7,21 @@ use Rattle.pairrules.proofs.Reading.{docks_are, code_is}
 use Rattle.pairrules.proofs.is_single_pair.Goals as goal
 
 pub returns-then-row_word-ne2 : goal.returns-then-row_word-ne2
-returns-then-row_word-ne2 c = first_not_two _ _ _ (c.row_word.ensures ∙ docks_are c.requires.0 _ c.requires.1) c.if-row_word-ne2.true
+returns-then-row_word-ne2 c = first_not_two _ _ _ (c.row_word.ensures ∙ docks_are c.args.manifest.holds _ c.requires.0) c.if-row_word-ne2.true
 
 pub returns-then-row_word-ne2-2 : goal.returns-then-row_word-ne2-2
-returns-then-row_word-ne2-2 c = second_not_two _ _ _ (c.row_word-2.ensures ∙ docks_are c.requires.0 _ c.requires.2) c.if-row_word-ne2-2.true
+returns-then-row_word-ne2-2 c = second_not_two _ _ _ (c.row_word-2.ensures ∙ docks_are c.args.manifest.holds _ c.requires.1) c.if-row_word-ne2-2.true
 
 pub bottom_field-code-requires : goal.bottom_field-code-requires
-bottom_field-code-requires c = (c.requires.0.filled, omega (arith, c.stack_at.ensures, index_within c.requires.0 _ c.requires.1), omega arith)
+bottom_field-code-requires c = (omega (arith, c.stack_at.ensures, index_within c.args.manifest.holds _ c.requires.0), omega arith)
 
 pub bottom_field-requires : goal.bottom_field-requires
-bottom_field-requires c = (c.requires.0.filled, omega (arith, c.stack_at-2.ensures, index_within c.requires.0 _ c.requires.1, index_within c.requires.0 _ c.requires.2), omega arith)
+bottom_field-requires c = (omega (arith, c.stack_at-2.ensures, index_within c.args.manifest.holds _ c.requires.0, index_within c.args.manifest.holds _ c.requires.1), omega arith)
 
 pub returns : goal.returns
 returns c =
     both_two _ _ _
-    (c.row_word.ensures ∙ docks_are c.requires.0 _ c.requires.1) c.if-row_word-ne2.false
-    (c.row_word-2.ensures ∙ docks_are c.requires.0 _ c.requires.2) c.if-row_word-ne2-2.false
-    (code_is c.requires.0 _ c.requires.1 c.stack_at.ensures c.bottom_field-code.ensures.0)
-    (code_is c.requires.0 _ c.requires.2 c.stack_at-2.ensures c.bottom_field.ensures.0)
+    (c.row_word.ensures ∙ docks_are c.args.manifest.holds _ c.requires.0) c.if-row_word-ne2.false
+    (c.row_word-2.ensures ∙ docks_are c.args.manifest.holds _ c.requires.1) c.if-row_word-ne2-2.false
+    (code_is c.args.manifest.holds _ c.requires.0 c.stack_at.ensures c.bottom_field-code.ensures.0)
+    (code_is c.args.manifest.holds _ c.requires.1 c.stack_at-2.ensures c.bottom_field.ensures.0)

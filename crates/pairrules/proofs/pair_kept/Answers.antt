@@ -3,13 +3,10 @@ use mathlib.Core.Path.{◌∙◌}
 use Rattle.pairrules.proofs.Reading.{disjoint_is, order_is}
 use Rattle.pairrules.proofs.pair_kept.Goals as goal
 
-pub returns-in-SecondPair : goal.returns-in-SecondPair
-returns-in-SecondPair c = rw c.in-SecondPair.is c.is_single_pair.ensures
-
 pub returns-in-Overlap : goal.returns-in-Overlap
 returns-in-Overlap c =
     rw c.in-Overlap.is
-    (c.disjoint.ensures ∙ rw (c.footprint_at.ensures, c.footprint_at-in-Overlap.ensures) (disjoint_is c.requires.0 _ _ c.requires.1 c.requires.2))
+    (c.disjoint.ensures ∙ rw (c.footprint_at.ensures, c.footprint_at-in-Overlap.ensures) (disjoint_is c.args.manifest.holds _ _ c.requires.0 c.requires.1))
 
 pub returns-in-Order : goal.returns-in-Order
-returns-in-Order c = rw c.in-Order.is (c.in_loading_order.ensures ∙ order_is c.requires.0 _ _ c.requires.1 c.requires.2)
+returns-in-Order c = rw c.in-Order.is (c.in_loading_order.ensures ∙ order_is c.args.manifest.holds _ _ c.requires.0 c.requires.1)

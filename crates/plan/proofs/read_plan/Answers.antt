@@ -1,7 +1,21 @@
--- `plan::read_plan` meets its contract: the announced number of stacks, the stacks, and the end of the file.
-use mathlib.Core.Path.{refl}
-use Rattle.plan.proofs.PlanLines.{plan_read}
+-- The announced number of stacks, the stacks, and the end of the file.
+use mathlib.Core.Path.{refl, sym, ◌∙◌}
+use Rattle.lines.proofs.Number.{number_read, number_refused}
+use Rattle.plan.proofs.PlanLines.{plan_refused, announced_refused, plan_ended, plan_read}
 use Rattle.plan.proofs.read_plan.Goals as goal
 
+pub returns-in_err-stacks : goal.returns-in_err-stacks
+returns-in_err-stacks c =
+    plan_refused _ _ _ c.from_residual.ensures.1
+    (announced_refused _ _ (number_refused c.in_err-stacks.was (c.head_line.ensures.says "stacks=" refl) c.head_line.ensures.within.0))
+
+pub returns-in_err-next : goal.returns-in_err-next
+returns-in_err-next c =
+    plan_refused _ _ _ c.from_residual-in_err-next.ensures.1
+    (plan_ended _ _ (number_read c.in_ok-stacks.was (c.head_line.ensures.says "stacks=" refl) c.head_line.ensures.within.0) c.read_stacks-read.ensures
+    (sym c.at_end.ensures ∙ c.in_err-next.was))
+
 pub returns : goal.returns
-returns c = plan_read c.args.limits c.args.counts c.args.file.now _ _ _ _ _ (c.head_line-announced.ensures.says "stacks=" refl) c.read_stacks-read.ensures c.at_end-progress.ensures
+returns c =
+    plan_read _ _ (number_read c.in_ok-stacks.was (c.head_line.ensures.says "stacks=" refl) c.head_line.ensures.within.0) c.read_stacks-read.ensures
+    (sym c.at_end.ensures ∙ c.in_ok-next.was)

@@ -5,6 +5,7 @@ use Prim.Native.Nat.{◌*◌, ◌+◌, ◌-◌}
 use native.Mathlib.Omega.{arith}
 use lib.ListN.{length}
 use borrow.Rule.Slice.PartMut.{mid_len}
+use Rattle.std.specs.Prelude.{Ok}
 use Rattle.meaning.specs.Reader.{line}
 use Rattle.meaning.specs.Files.{stack_line}
 use Rattle.ranges.specs.Ranges.{row_numbers}
@@ -28,5 +29,5 @@ returns c =
     let ok : c.if-in_range.judged ≡ f.fits c.stored_line-stored.new.out = rw (c.stack_in_range-in_range.ensures, c.is_repeated-repeated.ensures, fits) at tested in
     let says = c.stored_line-stored.ensures.says f refl refl (omega (arith, c.stored_line-stored.auto.out)) (stack_refuses_largest c.args.trucks _ (omega arith)) in
     rw (put_spliced at c.args.part.now c.stored_line-stored.new.out size long, c.judged.ensures)
-    (read_within c.args.file.now (line f) (λ ns. ns) c.args.p _ c.stored_line-stored.new.out (λ fields. spliced at fields c.args.part.now)
+    (read_within c.args.file.now (line f) (λ ns. ns) (Ok c.args.here) _ c.stored_line-stored.new.out (λ fields. spliced at fields c.args.part.now)
     (full_read c.stored_line-stored.ensures (omega arith) f says c.if-in_range.judged ok))

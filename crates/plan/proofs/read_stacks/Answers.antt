@@ -1,18 +1,22 @@
--- `plan::read_stacks` meets its contract. The loop's state says what is read so far, and that what is left makes up the whole answer.
+-- Each stack is put behind those before; the first line that is refused ends the reading.
 use mathlib.Core.Path.{ap, ◌∙◌}
 use Prim.Native.Nat.{ℕ}
 use native.Mathlib.Omega.{arith}
 use lib.ListN.{replicate}
-use Rattle.plan.proofs.StackLines.{so_far_first, so_far_next, so_far_done}
+use Rattle.lines.proofs.Follow.{handed_on}
+use Rattle.plan.proofs.StackLines.{so_far_first, so_far_next, so_far_refused, so_far_done}
 use Rattle.plan.proofs.read_stacks.Goals as goal
 
-pub loop-q-init : goal.loop-q-init
-loop-q-init c =
-    so_far_first c.args.limits c.args.counts c.args.count c.args.file.now c.args.p c.clear.new.words
-    (c.clear.ensures ∙ ap (λ (n : ℕ). replicate n 0) c.requires.4) c.requires.1 c.requires.3
+pub loop-k-init : goal.loop-k-init
+loop-k-init c =
+    so_far_first c.args.limits c.args.counts c.args.count c.args.file.now c.args.here c.clear.new.words
+    (c.clear.ensures ∙ ap (λ (n : ℕ). replicate n 0) c.requires.4) c.requires.1
 
-pub loop-q-preserved : goal.loop-q-preserved
-loop-q-preserved c = so_far_next c.loop-q.invariant _ _ c.loop-q-test.true c.read_stack-q.auto.part c.read_stack-q.ensures
+pub returns-in_err-loaded : goal.returns-in_err-loaded
+returns-in_err-loaded c = handed_on c.from_residual.ensures.1 (so_far_refused c.loop-k.invariant (omega arith) (rw c.in_err-loaded.was at c.read_stack.ensures))
+
+pub loop-k-preserved : goal.loop-k-preserved
+loop-k-preserved c = so_far_next c.loop-k.invariant (omega arith) (omega arith) (rw c.in_ok-loaded.was at c.read_stack.ensures)
 
 pub returns : goal.returns
-returns c = so_far_done c.loop-q.invariant (omega arith)
+returns c = so_far_done c.loop-k.invariant (omega arith)

@@ -1,23 +1,18 @@
 -- The words from the index on decide: they are distinct where all words are, since those before are listed once only.
-use mathlib.Core.Path.{refl, sym, ◌∙◌}
+use mathlib.Core.Path.{sym, ◌∙◌}
 use native.Mathlib.Omega.{arith}
 use Rattle.ranges.proofs.Scan.{distinct_on, distinct_off, distinct_end}
 use Rattle.ranges.proofs.are_distinct.Goals as goal
 
-pub loop-i-init : goal.loop-i-init
-loop-i-init c = (omega arith, refl)
-
 pub returns-then-is_listed : goal.returns-then-is_listed
 returns-then-is_listed c =
     let ws = c.args.words.now in
-    sym (distinct_off ws c.loop-i.i (omega arith) (sym c.is_listed.ensures ∙ c.if-is_listed.true)) ∙ c.loop-i.invariant.1
+    sym (distinct_off ws c.loop-i.i (omega arith) (sym c.is_listed.ensures ∙ c.if-is_listed.true)) ∙ c.loop-i.invariant
 
 pub loop-i-preserved : goal.loop-i-preserved
 loop-i-preserved c =
     let ws = c.args.words.now in
-    (omega arith, sym (distinct_on ws c.loop-i.i (omega arith) (sym c.is_listed.ensures ∙ c.if-is_listed.false)) ∙ c.loop-i.invariant.1)
+    sym (distinct_on ws c.loop-i.i (omega arith) (sym c.is_listed.ensures ∙ c.if-is_listed.false)) ∙ c.loop-i.invariant
 
 pub returns : goal.returns
-returns c =
-    let a = c.args in
-    sym (distinct_end a.words.now c.loop-i.i (omega arith)) ∙ c.loop-i.invariant.1
+returns c = sym (distinct_end c.args.words.now c.loop-i.i (omega arith)) ∙ c.loop-i.invariant

@@ -1,7 +1,8 @@
--- `item_in_range`: the ends that the code lists are those of the item's ranges, once the highest nesting height is one below the height.
-use Rattle.ranges.specs.Ranges.{ranges_between}
+-- The table of the code has the ranges of the line.
+use mathlib.Core.Path.{◌∙◌}
+use native.Mathlib.Omega.{arith}
+use Rattle.ranges.proofs.Scan.{within_zip}
 use Rattle.ranges.proofs.item_in_range.Goals as goal
 
 pub returns : goal.returns
-unfolding ranges_between
-returns c = rw (← c.one_below-nesting.ensures) c.in_ranges.ensures
+returns c = rw (← c.saturating_sub-nesting.ensures) (c.in_ranges.ensures ∙ within_zip c.args.fields.now _ (omega arith))

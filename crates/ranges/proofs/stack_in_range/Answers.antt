@@ -1,7 +1,8 @@
--- The two lists of ends are the ranges of a stack's line.
-use Rattle.ranges.specs.Ranges.{ranges_between}
+-- The table of the code has the ranges of the line.
+use mathlib.Core.Path.{◌∙◌}
+use native.Mathlib.Omega.{arith}
+use Rattle.ranges.proofs.Scan.{within_zip}
 use Rattle.ranges.proofs.stack_in_range.Goals as goal
 
 pub returns : goal.returns
-unfolding ranges_between
-returns c = c.in_ranges.ensures
+returns c = c.in_ranges.ensures ∙ within_zip c.args.fields.now _ (omega arith)

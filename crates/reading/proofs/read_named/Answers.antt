@@ -1,5 +1,5 @@
 -- The words are cleared after every refusal, and stay as they are filled where there is none.
-use mathlib.Core.Path.{◌≡◌}
+use mathlib.Core.Path.{◌≡◌, sym, ◌∙◌}
 use native.Mathlib.Omega.{arith}
 use lib.ListN.{length}
 use Rattle.meaning.specs.Limits.{named}
@@ -12,11 +12,11 @@ returns-then-limits-instance c = instance_overlong _ _ _ _ _ c.if-limits-instanc
 pub returns-then-limits-plan : goal.returns-then-limits-plan
 returns-then-limits-plan c = plan_overlong _ _ _ c.if-limits-instance.false _ _ c.if-limits-plan.true c.refused-then-limits-plan.ensures (rw c.requires.1 at c.clear-then-limits-plan.ensures)
 
-pub returns-then-not-is_readable : goal.returns-then-not-is_readable
-returns-then-not-is_readable c =
+pub returns-then-is_err : goal.returns-then-is_err
+returns-then-is_err c =
     let size : length c.fill-r.new.words ≡ named c.args.limits = omega arith in
-    words_cleared _ _ _ c.if-limits-instance.false c.if-limits-plan.false _ _ c.fill-r.ensures _ c.is_readable.ensures _ c.if-not-is_readable.true-raw
-    (rw size at c.clear-then-not-is_readable.ensures)
+    words_cleared _ _ _ c.if-limits-instance.false c.if-limits-plan.false _ _ c.fill-r.ensures _ (sym c.is_err.ensures.value ∙ c.if-is_err.true)
+    (rw size at c.clear-then-is_err.ensures)
 
-pub returns-else-not-is_readable : goal.returns-else-not-is_readable
-returns-else-not-is_readable c = words_kept _ _ _ c.if-limits-instance.false c.if-limits-plan.false _ _ c.fill-r.ensures _ c.is_readable.ensures c.if-not-is_readable.false-raw
+pub returns-else-is_err : goal.returns-else-is_err
+returns-else-is_err c = words_kept _ _ _ c.if-limits-instance.false c.if-limits-plan.false _ _ c.fill-r.ensures (sym c.is_err.ensures.value ∙ c.if-is_err.false)

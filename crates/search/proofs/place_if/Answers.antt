@@ -1,9 +1,7 @@
 -- `search::place_if`: the lowest of one place is that place, of none it is none.
-use Rattle.search.proofs.Lowest.{broken_at, kept_at}
+use mathlib.Core.Path.{◌∙◌}
+use Rattle.search.proofs.Lowest.{place_tested}
 use Rattle.search.proofs.place_if.Goals as goal
 
-pub returns-then-broken : goal.returns-then-broken
-returns-then-broken c = broken_at _ _ c.if-broken.true
-
 pub returns : goal.returns
-returns c = kept_at _ _ c.if-broken.false
+returns c = c.then_some.ensures ∙ place_tested _ _

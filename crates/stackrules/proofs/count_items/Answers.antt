@@ -8,22 +8,17 @@ use Rattle.stackrules.proofs.count_items.Goals as goal
 
 pub loop-s-init : goal.loop-s-init
 loop-s-init c =
-    let p = stacks_in c.args.limits c.args.t.now in
-    (omega arith, refl, tally_none p c.requires.1 c.clear.ensures c.stack_count-s.ensures.0)
+    let p = stacks_in c.args.table.named.limits c.args.table.named.words.now in
+    (omega arith, refl, tally_none p c.requires c.clear.ensures c.stack_count-s.ensures.0)
 
 pub count_load-requires : goal.count_load-requires
-count_load-requires c = countable c.loop-s.s c.requires.0 c.load.ensures.1 c.loop-s.invariant.2
+count_load-requires c = countable c.loop-s.s c.args.table.filled c.load.ensures.1 c.loop-s.invariant.2
 
 pub loop-s-preserved : goal.loop-s-preserved
 loop-s-preserved c =
-    let p = stacks_in c.args.limits c.args.t.now in
+    let p = stacks_in c.args.table.named.limits c.args.table.named.words.now in
     let back : c.loop-s.s - 1 + 1 ≡ c.loop-s.s = omega arith in (
       omega arith,
       omega arith,
       tally_more p (omega arith) (rw back c.loop-s.invariant.2) (omega arith) c.load.ensures.0 c.count_load.ensures,
     )
-
-pub returns : goal.returns
-returns c =
-    let none : c.loop-s.s ≡ 0 = omega arith in
-    rw none at c.loop-s.invariant.2

@@ -7,8 +7,5 @@ use Rattle.stackrules.specs.StackRules.{Tally}
 use Rattle.stackrules.proofs.count_items.Given as goal
 
 abbrev pub invariant-loop-s : goal.invariant-loop-s
-invariant-loop-s l = let p = stacks_in l.limits l.t in
-    (l.s ≤ length p) × (length l.times ≡ length l.initial.times) × Tally (length (instance_in l.limits l.t).items) (drop l.s p) l.times
-
-abbrev pub decreases-loop-s : goal.decreases-loop-s
-decreases-loop-s l = l.s
+invariant-loop-s l = let p = stacks_in l.table.named.limits l.table.named.words.now in
+    (l.s ≤ length p) × (length l.times ≡ length l.initial.times) × Tally (length (instance_in l.table.named.limits l.table.named.words.now).items) (drop l.s p) l.times

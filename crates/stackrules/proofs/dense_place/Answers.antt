@@ -16,7 +16,7 @@ bottom_field-requires-2 c = search (rules, stack_there)
 
 pub density_kept-kept-requires : goal.density_kept-kept-requires
 density_kept-kept-requires c = (
-  omega (arith, c.row_word-weight.ensures, word_most c.requires.0 c.args.k c.requires.1 8 (omega arith)),
+  omega (arith, c.row_word-weight.ensures, word_most c.args.manifest.holds c.args.k c.requires 8 (omega arith)),
   c.truck_field-limit.ensures.1,
   c.bottom_field.ensures.1,
   c.bottom_field-2.ensures.1,
@@ -24,5 +24,5 @@ density_kept-kept-requires c = (
 
 pub returns : goal.returns
 returns c =
-    dense_is c.requires.0 c.requires.1 c.row_word-2.ensures c.stack_at-s.ensures c.row_word-weight.ensures c.row_word.ensures
+    dense_is c.args.manifest.holds c.requires c.row_word-2.ensures c.stack_at-s.ensures c.row_word-weight.ensures c.row_word.ensures
     c.truck_field-limit.ensures.0 c.bottom_field.ensures.0 c.bottom_field-2.ensures.0 c.density_kept-kept.ensures c.place_if.ensures

@@ -9,9 +9,9 @@ pub truck_field-two_docks-requires : goal.truck_field-two_docks-requires
 truck_field-two_docks-requires c = search (rules, truck_there)
 
 pub overflow_add-after : goal.overflow_add-after
-overflow_add-after c = record { fits = omega (arith, c.row_word-after.ensures, word_most c.requires.0 c.args.k c.requires.1 14 (omega arith)) }
+overflow_add-after c = record { fits = omega (arith, c.row_word-after.ensures, word_most c.args.manifest.holds c.args.k c.requires 14 (omega arith)) }
 
 pub returns : goal.returns
 returns c =
-    docks_is c.requires.0 c.requires.1 c.row_word-3.ensures c.row_word-count.ensures c.row_word.ensures
+    docks_is c.args.manifest.holds c.requires c.row_word-3.ensures c.row_word-count.ensures c.row_word.ensures
     c.truck_field-two_docks.ensures.0 c.row_word-after.ensures c.row_word-2.ensures c.place_if.ensures

@@ -8,7 +8,4 @@ use Rattle.stackrules.proofs.First.{FirstFrom}
 use Rattle.stackrules.proofs.first_on_stacks.Given as goal
 
 abbrev pub invariant-loop-k : goal.invariant-loop-k
-invariant-loop-k l = FirstFrom (λ (s : Stack) rule. rule_places rule (instance_in l.limits l.t) (s ∷ [])) (in_manifest (stacks_in l.limits l.t)) l.k l.first
-
-abbrev pub decreases-loop-k : goal.decreases-loop-k
-decreases-loop-k l = l.k
+invariant-loop-k l = FirstFrom (λ (s : Stack) rule. rule_places rule (instance_in l.manifest.table.named.limits l.manifest.table.named.words.now) (s ∷ [])) (in_manifest (stacks_in l.manifest.table.named.limits l.manifest.table.named.words.now)) l.k l.first

@@ -7,6 +7,6 @@ use Rattle.stackrules.proofs.item_keeps_rules.Goals as goal
 
 pub returns : goal.returns
 returns c =
-    let i = instance_in c.args.limits c.args.t.now in
-    every_tested i (stack_at (stacks_in c.args.limits c.args.t.now) c.args.s) (item i c.args.n) c.plant_matches.ensures c.product_carried.ensures c.supplier_visited.ensures
+    let i = instance_in c.args.table.named.limits c.args.table.named.words.now in
+    every_tested i (stack_at (stacks_in c.args.table.named.limits c.args.table.named.words.now) c.args.s) (item i c.args.n) c.plant_matches.ensures c.product_carried.ensures c.supplier_visited.ensures
     c.arrives_in_window.ensures c.docks_served.ensures c.is_stackable.ensures c.orientation_kept.ensures

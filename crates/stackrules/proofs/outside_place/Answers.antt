@@ -14,10 +14,10 @@ pub truck_field-requires-2 : goal.truck_field-requires-2
 truck_field-requires-2 c = search (rules, truck_there)
 
 pub truck_field-requires-3 : goal.truck_field-requires-3
-truck_field-requires-3 c = (c.requires.0.filled, truck_there c.requires.0 c.requires.1 c.row_word-truck.ensures, omega arith)
+truck_field-requires-3 c = (truck_there c.args.manifest.holds c.requires c.row_word-truck.ensures, omega arith)
 
 pub returns : goal.returns
 returns c =
-    outside_is c.requires.0 c.requires.1 c.row_word-number.ensures c.stack_at.ensures c.load.ensures.0 c.row_word-truck.ensures
+    outside_is c.args.manifest.holds c.requires c.row_word-number.ensures c.stack_at.ensures c.load.ensures.0 c.row_word-truck.ensures
     c.footprint_at-ground.ensures c.read_size-size.ensures c.truck_field.ensures.0 c.truck_field-2.ensures.0
     c.truck_field-3.ensures.0 c.exceeded_side-side.ensures c.place_if.ensures

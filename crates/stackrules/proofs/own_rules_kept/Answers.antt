@@ -21,13 +21,13 @@ module _ (P : OwnRule → Type 0) (docks : P Docks) (top : P TopHeavy) (many : P
 
 pub returns : goal.returns
 returns c =
-    let i = instance_in c.args.limits c.args.t.now in
-    let s = manifest_at (stacks_in c.args.limits c.args.t.now) c.args.k in
-    let d = nothing_told (own_places Docks i s) c.docks_place.ensures c.is_nothing-docks.ensures in
-    let t = nothing_told (own_places TopHeavy i s) c.top_heavy_place.ensures c.is_nothing-top.ensures in
-    let m = nothing_told (own_places TooMany i s) c.too_many_place.ensures c.is_nothing-count.ensures in
-    let h = nothing_told (own_places Dense i s) c.dense_place.ensures c.is_nothing-density.ensures in
-    let o = nothing_told (own_places Outside i s) c.outside_place.ensures c.is_nothing-ground.ensures in
+    let i = instance_in c.args.manifest.table.named.limits c.args.manifest.table.named.words.now in
+    let s = manifest_at (stacks_in c.args.manifest.table.named.limits c.args.manifest.table.named.words.now) c.args.k in
+    let d = nothing_told (own_places Docks i s) c.docks_place.ensures c.is_none-docks.ensures in
+    let t = nothing_told (own_places TopHeavy i s) c.top_heavy_place.ensures c.is_none-top.ensures in
+    let m = nothing_told (own_places TooMany i s) c.too_many_place.ensures c.is_none-count.ensures in
+    let h = nothing_told (own_places Dense i s) c.dense_place.ensures c.is_none-density.ensures in
+    let o = nothing_told (own_places Outside i s) c.outside_place.ensures c.is_none-ground.ensures in
     iff_trans (both (both (both (both d t) m) h) o) (
       (λ ((((d, t), m), h), o). every-own (λ rule. own_places rule i s ≡ []) d t m h o),
       (λ each. ((((each Docks, each TopHeavy), each TooMany), each Dense), each Outside)),

@@ -6,7 +6,4 @@ use Rattle.stackrules.proofs.First.{FirstFrom}
 use Rattle.stackrules.proofs.stack_breach.Given as goal
 
 abbrev pub invariant-loop-j : goal.invariant-loop-j
-invariant-loop-j l = FirstFrom (with_item (instance_in l.limits l.t) (manifest_at (stacks_in l.limits l.t) l.k)) l.items l.j l.first
-
-abbrev pub decreases-loop-j : goal.decreases-loop-j
-decreases-loop-j l = l.j
+invariant-loop-j l = FirstFrom (with_item (instance_in l.manifest.table.named.limits l.manifest.table.named.words.now) (manifest_at (stacks_in l.manifest.table.named.limits l.manifest.table.named.words.now) l.k)) l.items l.j l.first

@@ -5,7 +5,7 @@ use Rattle.stackrules.proofs.Stacks.{stack_there, item_is}
 use Rattle.stackrules.proofs.stack_place.Goals as goal
 
 pub returns-in-EachItem : goal.returns-in-EachItem
-returns-in-EachItem c = rw c.in-EachItem.is (item_is c.requires.0 c.requires.1 c.row_word.ensures _ _ c.stack_at.ensures c.item_kept-kept.ensures c.place_if.ensures)
+returns-in-EachItem c = rw c.in-EachItem.is (item_is c.args.manifest.holds c.requires.0 c.row_word.ensures _ _ c.stack_at.ensures c.item_kept-kept.ensures c.place_if.ensures)
 
 pub item_kept-kept-requires : goal.item_kept-kept-requires
 item_kept-kept-requires c = search (rules, stack_there)

@@ -11,5 +11,5 @@ truck_field-requires c = search (rules, truck_there)
 
 pub returns : goal.returns
 returns c =
-    top_heavy_is c.requires.0 c.requires.1 c.row_word-2.ensures c.stack_at.ensures c.load-items.ensures.0
+    top_heavy_is c.args.manifest.holds c.requires c.row_word-2.ensures c.stack_at.ensures c.load-items.ensures.0
     c.load_sum-above.ensures.0 c.row_word.ensures c.truck_field.ensures.0 c.place_if.ensures

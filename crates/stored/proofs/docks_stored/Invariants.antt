@@ -1,5 +1,5 @@
 -- Supplier after supplier: those whose docks are a list behind its count do not decide any more.
-use Prim.Native.Nat.{◌-◌, ◌*◌, ◌≤◌}
+use Prim.Native.Nat.{◌*◌}
 use lib.ListN.{get_or, take, drop}
 use Rattle.meaning.specs.Lists.{up_from}
 use Rattle.stored.specs.Parts.{entries_stored}
@@ -7,7 +7,4 @@ use Rattle.stored.proofs.Scan.{Passed}
 use Rattle.stored.proofs.docks_stored.Given as goal
 
 abbrev pub invariant-loop-k : goal.invariant-loop-k
-invariant-loop-k l = (l.k ≤ l.suppliers) × Passed (λ j. entries_stored (get_or l.counts j 0) (take 8 (drop (8 * j) l.rows))) (up_from 0 l.suppliers) l.k
-
-abbrev pub decreases-loop-k : goal.decreases-loop-k
-decreases-loop-k l = l.suppliers - l.k
+invariant-loop-k l = Passed (λ j. entries_stored (get_or l.counts j 0) (take 8 (drop (8 * j) l.rows))) (up_from 0 l.suppliers) l.k

@@ -9,17 +9,13 @@ use Rattle.stored.specs.Parts.{zeros, entries_of, loads_stored, plan_stored}
 use Rattle.stored.proofs.Scan.{rest_lent}
 use Rattle.stored.proofs.plan_stored.Goals as goal
 
-pub loads_stored-requires : goal.loads_stored-requires
-loads_stored-requires c = rw c.load_words.ensures.1 c.loaded_by-loaded.ensures.1
-
 pub returns : goal.returns
 unfolding plan_stored
 returns c =
-    let t = c.args.t.now in
-    let m = c.args.limits in
-    let stacks = c.as_index-stacks.ensures.0 in
-    let part = c.words_of_stacks-words.ensures.0 in
-    let entries = c.loaded_by-loaded.ensures.0 ∙ ap₂ (λ n ws. entries_of m.loads (get_or t 4 0) [] 0 (chunks 8 n ws)) stacks part in
-    let rest = c.are_zero.ensures ∙ ap zeros (rest_lent (8 * c.as_index-stacks.result) c.words_of_stacks-words.result.now) in
-    ap₂ ◌&&◌ (c.loads_stored.ensures ∙ ap₂ (loads_stored (get_or t 3 0)) c.load_words.ensures.0 entries)
-    (rest ∙ ap₂ (λ n ws. zeros (drop (8 * n) ws)) stacks part)
+    let t = c.args.table.words.now in
+    let m = c.args.table.limits in
+    let n = get_or t 5 0 in
+    let part = c.stacks-words.ensures.0 in
+    let entries = c.loaded_by-loaded.ensures.0 ∙ ap (λ ws. entries_of m.loads (get_or t 4 0) [] 0 (chunks 8 n ws)) part in
+    let rest = c.are_zero.ensures ∙ ap zeros (rest_lent (8 * n) c.stacks-words.result.now) in
+    ap₂ ◌&&◌ (c.loads_stored.ensures ∙ ap₂ (loads_stored (get_or t 3 0)) c.loads.ensures.0 entries) (rest ∙ ap (λ ws. zeros (drop (8 * n) ws)) part)

@@ -6,5 +6,5 @@ use Rattle.stored_cases.proofs.main.Goals as goal
 zeros_counted : (n : ℕ) → n ≡ length (replicate {0} {A = ℕ} n 0)
 zeros_counted n = sym (length-replicate n 0)
 
-pub slice_bounds-run_all-end-2 : goal.slice_bounds-run_all-end-2
-slice_bounds-run_all-end-2 c = zeros_counted 1572864
+pub slice_bounds-read_file-end-4 : goal.slice_bounds-read_file-end-4
+slice_bounds-read_file-end-4 c = zeros_counted 1572864

@@ -2,5 +2,5 @@
 use Rattle.std.proofs.Common.{length, ◌-◌}
 use Rattle.stored_cases.proofs.run.Given as goal
 
-abbrev pub decreases-loop-at : goal.decreases-loop-at
-decreases-loop-at g l = length l.cases - l.at
+abbrev pub decreases-loop-parsed : goal.decreases-loop-parsed
+decreases-loop-parsed g l = length l.cases - l.at

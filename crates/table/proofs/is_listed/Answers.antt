@@ -1,18 +1,13 @@
--- From the last word down: the words from the index on decide what was found so far.
-use mathlib.Core.Path.{◌≡◌}
-use native.Mathlib.Omega.{arith}
-use Rattle.table.proofs.Order.{listed_back, listed_end}
+-- `table::is_listed`: each number passed is one more that may be it.
+use Rattle.std.proofs.Common.{◌∙◌, sym, ap, ◌||◌, nat_eq, get_or, arith}
+use Rattle.table.proofs.Order.{listed_more, listed_none}
 use Rattle.table.proofs.is_listed.Goals as goal
 
-pub loop-i-init : goal.loop-i-init
-loop-i-init c = let a = c.args in (omega arith, listed_end a.list.now a.identifier)
+pub loop-listed-init : goal.loop-listed-init
+loop-listed-init c = listed_none c.args.identifier
 
-pub loop-i-preserved : goal.loop-i-preserved
-loop-i-preserved c =
-    let a = c.args in
-    (omega arith, listed_back a.list.now c.loop-i.i (omega arith) (omega arith) a.identifier c.loop-i.invariant.1)
-
-pub returns : goal.returns
-returns c =
-    let e : c.loop-i.i ≡ 0 = omega arith in
-    rw e at c.loop-i.invariant.1
+pub loop-listed-preserved : goal.loop-listed-preserved
+loop-listed-preserved c =
+    let l = c.loop-listed in
+    ap (λ b. b || nat_eq c.args.identifier (get_or c.args.list.now l.listed-index 0)) l.invariant
+    ∙ sym (listed_more c.args.identifier c.args.list.now l.listed-index (omega arith))

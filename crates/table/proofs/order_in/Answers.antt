@@ -1,23 +1,17 @@
--- `table::order_in`: the place among the numbers that are left, from `i` on, is the place among all.
-use mathlib.Core.Path.{refl, sym, ◌∙◌}
-use native.Mathlib.Omega.{arith}
-use Rattle.table.proofs.Order.{order_found, order_passed, order_none}
+-- `table::order_in`: a place from 0 is one more from 1.
+use Rattle.std.proofs.Common.{◌∙◌, ap, sym, nat_eq, arith}
+use Rattle.std.proofs.lemmas.List.Quantifiers.{position-Some}
+use Rattle.table.proofs.Order.{order_of, order_place}
 use Rattle.table.proofs.order_in.Goals as goal
 
-pub loop-i-init : goal.loop-i-init
-loop-i-init c = (omega arith, refl)
-
-pub returns-then-list-i : goal.returns-then-list-i
-returns-then-list-i c =
+pub returns-in-Some : goal.returns-in-Some
+returns-in-Some c =
     let a = c.args in
-    (sym (order_found a.identifier a.list.now c.loop-i.i (omega arith) c.if-list-i.true) ∙ c.loop-i.invariant.1, omega arith)
+    let e = sym c.place_of.ensures ∙ c.in-Some.is in
+    let within = position-Some (nat_eq a.identifier) a.list.now c.in-Some.place 0 e in
+    (sym (order_place a.identifier a.list.now ∙ ap order_of e), omega (arith, within.0))
 
-pub loop-i-preserved : goal.loop-i-preserved
-loop-i-preserved c =
+pub returns-in-None : goal.returns-in-None
+returns-in-None c =
     let a = c.args in
-    (omega arith, sym (order_passed a.identifier a.list.now c.loop-i.i (omega arith) c.if-list-i.false) ∙ c.loop-i.invariant.1)
-
-pub returns : goal.returns
-returns c =
-    let a = c.args in
-    (sym (order_none a.identifier a.list.now c.loop-i.i (omega arith)) ∙ c.loop-i.invariant.1, omega arith)
+    (sym (order_place a.identifier a.list.now ∙ ap order_of (sym c.place_of.ensures ∙ c.in-None.is)), omega arith)

@@ -1,19 +1,13 @@
--- Counted from `i` on, the byte is found at the same index as counted from `from` on.
-use native.Mathlib.Omega.{arith}
-use Rattle.text.proofs.Bytes.{count_at, count_end}
+-- The library's search stops before the first such byte, or behind the last byte.
+use Rattle.std.proofs.Common.{◌≡◌, ◌∙◌, arith, drop}
+use Rattle.text.proofs.Bytes.{take_rest, found_or_end, count_end}
 use Rattle.text.proofs.first_byte.Goals as goal
 
-pub returns-then-bytes-i : goal.returns-then-bytes-i
-returns-then-bytes-i c =
-    let a = c.args in
-    omega (arith, (count_at a.byte a.bytes.now c.loop-i.i (omega arith)).0 c.if-bytes-i.true)
+pub returns-in-Some : goal.returns-in-Some
+returns-in-Some c =
+    let bytes = c.args.bytes.now in
+    let rest : c.in-Some.rest.now ≡ drop c.args.from bytes = c.in-Some.ensures.lookup.0.2 ∙ take_rest bytes c.args.from in
+    rw (c.unwrap_or.ensures, found_or_end c.args.byte c.in-Some.rest.now c.index_of.ensures, rest)
 
-pub loop-i-preserved : goal.loop-i-preserved
-loop-i-preserved c =
-    let a = c.args in
-    omega (arith, (count_at a.byte a.bytes.now c.loop-i.i (omega arith)).1 c.if-bytes-i.false)
-
-pub returns : goal.returns
-returns c =
-    let a = c.args in
-    omega (arith, count_end a.byte a.bytes.now c.loop-i.i (omega arith))
+pub returns-in-None : goal.returns-in-None
+returns-in-None c = omega (arith, c.in-None.ensures.lookup, count_end c.args.byte c.args.bytes.now c.args.from (omega (arith, c.in-None.ensures.lookup)))

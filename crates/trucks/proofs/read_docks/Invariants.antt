@@ -1,7 +1,5 @@
--- `trucks::read_docks` meets its contract: before each turn the suppliers so far have their words.
-use mathlib.Core.Path.{◌≡◌}
-use Prim.Native.Nat.{◌-◌, ◌≤◌}
-use lib.ListN.{length}
+-- Before each turn the suppliers so far have their words.
+use Rattle.std.specs.Prelude.{Ok}
 use Rattle.meaning.specs.Reader.{line}
 use Rattle.meaning.specs.Files.{docks_line}
 use Rattle.trucks.proofs.Repeat.{Repeat}
@@ -9,7 +7,4 @@ use Rattle.trucks.proofs.Docks.{Docks}
 use Rattle.trucks.proofs.read_docks.Given as goal
 
 abbrev pub invariant-loop-k : goal.invariant-loop-k
-invariant-loop-k l = (length l.part ≡ 72) × (l.suppliers ≤ 8) × Repeat l.file (line docks_line) Docks l.suppliers l.initial.q l.part l.q l.k
-
-abbrev pub decreases-loop-k : goal.decreases-loop-k
-decreases-loop-k l = l.suppliers - l.k
+invariant-loop-k l = Repeat l.file (line docks_line) Docks l.suppliers (Ok l.initial.next) l.part (Ok l.next) l.k

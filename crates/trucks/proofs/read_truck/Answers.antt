@@ -1,99 +1,57 @@
--- `trucks::read_truck` meets its contract: the five parts come back one behind the other.
-use mathlib.Core.Path.{◌≡◌, refl, sym, ◌∙◌}
-use mathlib.Core.List.{List}
-use Prim.Native.Nat.{ℕ, ◌+◌, ◌≤◌}
+-- The five parts come back one behind the other; the first line that is refused ends the reading.
+use mathlib.Core.Path.{refl}
 use native.Mathlib.Omega.{arith}
-use lib.ListN.{length, take, drop}
 use Rattle.meaning.specs.Files.{suppliers_line}
+use Rattle.lines.proofs.Follow.{handed_on}
 use Rattle.lines.proofs.Judging.{few_counted}
-use Rattle.trucks.proofs.Repeat.{Front, front_cleared, front_length, front_lent, front_back}
-use Rattle.trucks.proofs.Truck.{truck_read}
+use Rattle.trucks.proofs.Repeat.{front_lent, front_back}
+use Rattle.trucks.proofs.Truck.{upto_row, upto_products, upto_suppliers, upto_docks}
+use Rattle.trucks.proofs.Truck.{row_refused, products_refused, suppliers_refused, docks_refused, plant_docks_refused, truck_read}
 use Rattle.trucks.proofs.read_truck.Goals as goal
 
-abbrev Upto : ℕ → Type 0
-Upto at = (ws : List ℕ) × (out : List ℕ) × Front 160 at ws out
+pub returns-in_err-row : goal.returns-in_err-row
+returns-in_err-row c = handed_on c.from_residual.ensures.1 (row_refused (rw c.in_err-row.was at c.read_truck_fields.ensures))
 
-abbrev behind : {at : ℕ} (u : Upto at) (k : ℕ) (run : List ℕ) → at + k ≤ 160 → length run ≡ length (take k (drop at u.1)) → Upto (at + k)
-behind u k run room kept = (_, _, front_back u.2 k run room kept)
+pub returns-in_err-products : goal.returns-in_err-products
+returns-in_err-products c =
+    let row = upto_row c.args.part.now c.requires.1 c.clear.ensures c.read_truck_fields.new.part c.read_truck_fields.auto.part in
+    handed_on c.from_residual-in_err-products.ensures.1 (products_refused (rw c.in_ok-row.was at c.read_truck_fields.ensures) (rw (c.in_err-products.was, front_lent row.2 33 (omega arith)) at (c.counted_line.ensures "products=" refl)))
 
-pub counted_line-suppliers-requires : goal.counted_line-suppliers-requires
-counted_line-suppliers-requires c = ((c.counted_line-products.ensures "products=" refl).into.within, omega arith, omega arith)
+pub counted_line-requires-2 : goal.counted_line-requires-2
+counted_line-requires-2 c =
+    let products = upto_products c.args.part.now c.requires.1 c.clear.ensures c.read_truck_fields.new.part c.read_truck_fields.auto.part c.counted_line.new.out c.counted_line.auto.out in
+    let nine = front_lent products.2 9 (omega arith) in
+    ((rw c.in_ok-products.was at (c.counted_line.ensures "products=" refl)).into.within, omega arith, omega arith)
 
-pub read_docks-p-requires : goal.read_docks-p-requires
-read_docks-p-requires c =
-    let after-clear : Upto 0 =
-    (_, _, front_cleared 160 c.args.part.now c.clear.new.words c.requires.1 c.clear.ensures) in
-    let after-row : Upto 20 =
-    behind after-clear 20 c.read_truck_fields-p.new.part (omega arith) c.read_truck_fields-p.auto.part in
-    let after-products : Upto 53 =
-    behind after-row 33 c.counted_line-products.new.out (omega arith) c.counted_line-products.auto.out in
-    let after-suppliers : Upto 62 =
-    behind after-products 9 c.counted_line-suppliers.new.out (omega arith) c.counted_line-suppliers.auto.out in
-    let read = rw (front_lent after-products.2 9 (omega arith)) at (c.counted_line-suppliers.ensures "suppliers=" refl) in
-    (read.into.within, few_counted suppliers_line read, front_lent after-suppliers.2 72 (omega arith))
+pub returns-in_err-suppliers : goal.returns-in_err-suppliers
+returns-in_err-suppliers c =
+    let row = upto_row c.args.part.now c.requires.1 c.clear.ensures c.read_truck_fields.new.part c.read_truck_fields.auto.part in
+    let products = upto_products c.args.part.now c.requires.1 c.clear.ensures c.read_truck_fields.new.part c.read_truck_fields.auto.part c.counted_line.new.out c.counted_line.auto.out in
+    handed_on c.from_residual-in_err-suppliers.ensures.1 (suppliers_refused (rw c.in_ok-row.was at c.read_truck_fields.ensures) (rw (c.in_ok-products.was, front_lent row.2 33 (omega arith)) at (c.counted_line.ensures "products=" refl)) (rw (c.in_err-suppliers.was, front_lent products.2 9 (omega arith)) at (c.counted_line-2.ensures "suppliers=" refl)))
 
-pub slice_bounds-counted_line-end-6 : goal.slice_bounds-counted_line-end-6
-slice_bounds-counted_line-end-6 c =
-    let after-clear : Upto 0 =
-    (_, _, front_cleared 160 c.args.part.now c.clear.new.words c.requires.1 c.clear.ensures) in
-    let after-row : Upto 20 =
-    behind after-clear 20 c.read_truck_fields-p.new.part (omega arith) c.read_truck_fields-p.auto.part in
-    let after-products : Upto 53 =
-    behind after-row 33 c.counted_line-products.new.out (omega arith) c.counted_line-products.auto.out in
-    let after-suppliers : Upto 62 =
-    behind after-products 9 c.counted_line-suppliers.new.out (omega arith) c.counted_line-suppliers.auto.out in
-    let after-docks : Upto 134 =
-    behind after-suppliers 72 c.read_docks-p.new.part (omega arith) c.read_docks-p.auto.part in
-    omega (arith, front_length after-docks.2 (omega arith))
+pub read_docks-requires : goal.read_docks-requires
+read_docks-requires c =
+    let products = upto_products c.args.part.now c.requires.1 c.clear.ensures c.read_truck_fields.new.part c.read_truck_fields.auto.part c.counted_line.new.out c.counted_line.auto.out in
+    let suppliers = upto_suppliers c.args.part.now c.requires.1 c.clear.ensures c.read_truck_fields.new.part c.read_truck_fields.auto.part c.counted_line.new.out c.counted_line.auto.out c.counted_line-2.new.out c.counted_line-2.auto.out in
+    let read = (rw (c.in_ok-suppliers.was, front_lent products.2 9 (omega arith)) at (c.counted_line-2.ensures "suppliers=" refl)) in
+    (read.into.within, few_counted suppliers_line read, front_lent suppliers.2 72 (omega arith))
 
-pub counted_line-plant_docks-requires : goal.counted_line-plant_docks-requires
-counted_line-plant_docks-requires c =
-    let after-clear : Upto 0 =
-    (_, _, front_cleared 160 c.args.part.now c.clear.new.words c.requires.1 c.clear.ensures) in
-    let after-row : Upto 20 =
-    behind after-clear 20 c.read_truck_fields-p.new.part (omega arith) c.read_truck_fields-p.auto.part in
-    let after-products : Upto 53 =
-    behind after-row 33 c.counted_line-products.new.out (omega arith) c.counted_line-products.auto.out in
-    let after-suppliers : Upto 62 =
-    behind after-products 9 c.counted_line-suppliers.new.out (omega arith) c.counted_line-suppliers.auto.out in
-    let after-docks : Upto 134 =
-    behind after-suppliers 72 c.read_docks-p.new.part (omega arith) c.read_docks-p.auto.part in
-    let nine = front_lent after-docks.2 9 (omega arith) in
-    (c.read_docks-p.ensures.within, omega arith, omega arith)
+pub returns-in_err-docks : goal.returns-in_err-docks
+returns-in_err-docks c =
+    let row = upto_row c.args.part.now c.requires.1 c.clear.ensures c.read_truck_fields.new.part c.read_truck_fields.auto.part in
+    let products = upto_products c.args.part.now c.requires.1 c.clear.ensures c.read_truck_fields.new.part c.read_truck_fields.auto.part c.counted_line.new.out c.counted_line.auto.out in
+    handed_on c.from_residual-in_err-docks.ensures.1 (docks_refused (rw c.in_ok-row.was at c.read_truck_fields.ensures) (rw (c.in_ok-products.was, front_lent row.2 33 (omega arith)) at (c.counted_line.ensures "products=" refl)) (rw (c.in_ok-suppliers.was, front_lent products.2 9 (omega arith)) at (c.counted_line-2.ensures "suppliers=" refl)) (rw c.in_err-docks.was at c.read_docks.ensures))
 
-pub shape_of-part : goal.shape_of-part
-shape_of-part c =
-    let after-clear : Upto 0 =
-    (_, _, front_cleared 160 c.args.part.now c.clear.new.words c.requires.1 c.clear.ensures) in
-    let after-row : Upto 20 =
-    behind after-clear 20 c.read_truck_fields-p.new.part (omega arith) c.read_truck_fields-p.auto.part in
-    let after-products : Upto 53 =
-    behind after-row 33 c.counted_line-products.new.out (omega arith) c.counted_line-products.auto.out in
-    let after-suppliers : Upto 62 =
-    behind after-products 9 c.counted_line-suppliers.new.out (omega arith) c.counted_line-suppliers.auto.out in
-    let after-docks : Upto 134 =
-    behind after-suppliers 72 c.read_docks-p.new.part (omega arith) c.read_docks-p.auto.part in
-    let after-plant-docks : Upto 143 =
-    behind after-docks 9 c.counted_line-plant_docks.new.out (omega arith) c.counted_line-plant_docks.auto.out in
-    front_length after-plant-docks.2 (omega arith) ∙ sym c.requires.1
+pub returns-in_err-plant_docks : goal.returns-in_err-plant_docks
+returns-in_err-plant_docks c =
+    let row = upto_row c.args.part.now c.requires.1 c.clear.ensures c.read_truck_fields.new.part c.read_truck_fields.auto.part in
+    let products = upto_products c.args.part.now c.requires.1 c.clear.ensures c.read_truck_fields.new.part c.read_truck_fields.auto.part c.counted_line.new.out c.counted_line.auto.out in
+    let docks = upto_docks c.args.part.now c.requires.1 c.clear.ensures c.read_truck_fields.new.part c.read_truck_fields.auto.part c.counted_line.new.out c.counted_line.auto.out c.counted_line-2.new.out c.counted_line-2.auto.out c.read_docks.new.part c.read_docks.auto.part in
+    handed_on c.from_residual-in_err-plant_docks.ensures.1 (plant_docks_refused (rw c.in_ok-row.was at c.read_truck_fields.ensures) (rw (c.in_ok-products.was, front_lent row.2 33 (omega arith)) at (c.counted_line.ensures "products=" refl)) (rw (c.in_ok-suppliers.was, front_lent products.2 9 (omega arith)) at (c.counted_line-2.ensures "suppliers=" refl)) (rw c.in_ok-docks.was at c.read_docks.ensures) (rw (c.in_err-plant_docks.was, front_lent docks.2 9 (omega arith)) at (c.counted_line-3.ensures "plantdocks=" refl)))
 
 pub returns : goal.returns
 returns c =
-    let after-clear : Upto 0 =
-    (_, _, front_cleared 160 c.args.part.now c.clear.new.words c.requires.1 c.clear.ensures) in
-    let after-row : Upto 20 =
-    behind after-clear 20 c.read_truck_fields-p.new.part (omega arith) c.read_truck_fields-p.auto.part in
-    let after-products : Upto 53 =
-    behind after-row 33 c.counted_line-products.new.out (omega arith) c.counted_line-products.auto.out in
-    let after-suppliers : Upto 62 =
-    behind after-products 9 c.counted_line-suppliers.new.out (omega arith) c.counted_line-suppliers.auto.out in
-    let after-docks : Upto 134 =
-    behind after-suppliers 72 c.read_docks-p.new.part (omega arith) c.read_docks-p.auto.part in
-    let after-plant-docks : Upto 143 =
-    behind after-docks 9 c.counted_line-plant_docks.new.out (omega arith) c.counted_line-plant_docks.auto.out in
-    truck_read c.read_truck_fields-p.ensures
-    (rw (front_lent after-row.2 33 (omega arith)) at (c.counted_line-products.ensures "products=" refl))
-    (rw (front_lent after-products.2 9 (omega arith)) at (c.counted_line-suppliers.ensures "suppliers=" refl))
-    c.read_docks-p.ensures
-    (rw (front_lent after-docks.2 9 (omega arith)) at (c.counted_line-plant_docks.ensures "plantdocks=" refl))
-    after-plant-docks.2
+    let row = upto_row c.args.part.now c.requires.1 c.clear.ensures c.read_truck_fields.new.part c.read_truck_fields.auto.part in
+    let products = upto_products c.args.part.now c.requires.1 c.clear.ensures c.read_truck_fields.new.part c.read_truck_fields.auto.part c.counted_line.new.out c.counted_line.auto.out in
+    let docks = upto_docks c.args.part.now c.requires.1 c.clear.ensures c.read_truck_fields.new.part c.read_truck_fields.auto.part c.counted_line.new.out c.counted_line.auto.out c.counted_line-2.new.out c.counted_line-2.auto.out c.read_docks.new.part c.read_docks.auto.part in
+    truck_read (rw c.in_ok-row.was at c.read_truck_fields.ensures) (rw (c.in_ok-products.was, front_lent row.2 33 (omega arith)) at (c.counted_line.ensures "products=" refl)) (rw (c.in_ok-suppliers.was, front_lent products.2 9 (omega arith)) at (c.counted_line-2.ensures "suppliers=" refl)) (rw c.in_ok-docks.was at c.read_docks.ensures) (rw (c.in_ok-plant_docks.was, front_lent docks.2 9 (omega arith)) at (c.counted_line-3.ensures "plantdocks=" refl)) (front_back docks.2 9 c.counted_line-3.new.out (omega arith) c.counted_line-3.auto.out)

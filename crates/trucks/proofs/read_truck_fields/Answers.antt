@@ -1,4 +1,4 @@
--- `read_truck_fields`: the line fills the 20 words, so that the test on the words is the form's.
+-- The line fills the 20 words, so that the test on the words is the form's.
 use mathlib.Core.Path.{refl, sym}
 use native.Mathlib.Omega.{arith}
 use Rattle.meaning.specs.Files.{truck_ranges, truck_line}
@@ -14,4 +14,4 @@ pub returns : goal.returns
 returns c =
     rw c.judged.ensures
     (full_read c.stored_line-stored.ensures (omega (arith, c.stored_line-stored.auto.out)) truck_line
-    (c.stored_line-stored.ensures.says truck_line refl refl (sym c.requires.1) truck-refuses-largest) c.truck_in_range-in_range.result c.truck_in_range-in_range.ensures)
+    (c.stored_line-stored.ensures.says truck_line refl refl (sym c.requires.1) truck-refuses-largest) c.truck_in_range.result c.truck_in_range.ensures)

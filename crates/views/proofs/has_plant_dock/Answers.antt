@@ -1,19 +1,17 @@
 -- `views::has_plant_dock`: the dock is among all from `from` on exactly when it is among those that are left.
-use native.Mathlib.Omega.{arith}
-use Rattle.views.proofs.Loads.{passed_start, passed_found, passed_more, passed_end}
+use Rattle.std.proofs.Common.{add_assoc, arith}
+use Rattle.views.proofs.Loads.{entry_from, passed_found, passed_more, passed_end}
 use Rattle.views.proofs.has_plant_dock.Goals as goal
 
-pub loop-j-init : goal.loop-j-init
-loop-j-init c = passed_start c.requires.2
-
-pub item_field-requires : goal.item_field-requires
-item_field-requires c = (c.requires.0, c.requires.1.entries c.loop-j.j (omega arith), omega arith)
-
 pub returns-then-item_field-dock : goal.returns-then-item_field-dock
-returns-then-item_field-dock c = passed_found c.loop-j.invariant (omega arith) c.item_field.ensures.0 c.if-item_field-dock.true
+returns-then-item_field-dock c =
+    let e = rw (entry_from c.args.load.now c.args.from c.loop-n.n-index) at c.item_field.ensures.0 in
+    passed_found c.loop-n.invariant (omega arith) e c.if-item_field-dock.true
 
-pub loop-j-preserved : goal.loop-j-preserved
-loop-j-preserved c = passed_more c.loop-j.invariant (omega arith) c.item_field.ensures.0 c.if-item_field-dock.false
+pub loop-n-preserved : goal.loop-n-preserved
+loop-n-preserved c =
+    let e = rw (entry_from c.args.load.now c.args.from c.loop-n.n-index) at c.item_field.ensures.0 in
+    rw (← add_assoc c.args.from c.loop-n.n-index 1) (passed_more c.loop-n.invariant (omega arith) e c.if-item_field-dock.false)
 
 pub returns : goal.returns
-returns c = passed_end c.loop-j.invariant (omega arith)
+returns c = passed_end c.loop-n.invariant (omega arith)

@@ -1,19 +1,12 @@
 -- `views::load_sum`: what is summed and what is still to come make the whole sum.
-use native.Mathlib.Omega.{arith}
-use Rattle.views.proofs.Loads.{summed_start, summed_more, summed_room, summed_end, item_ends}
+use Rattle.std.proofs.Common.{add_assoc, arith}
+use Rattle.views.proofs.Loads.{entry_from, summed_more, summed_end}
 use Rattle.views.proofs.load_sum.Goals as goal
 
-pub loop-j-init : goal.loop-j-init
-loop-j-init c = summed_start (omega arith)
-
-pub item_field-sum-requires : goal.item_field-sum-requires
-item_field-sum-requires c = (c.requires.0, c.requires.1.entries c.loop-j.j (omega arith), c.requires.3)
-
-pub overflow_add-sum : goal.overflow_add-sum
-overflow_add-sum c = omega (arith, summed_room c.loop-j.invariant (omega arith) c.item_field-sum.ensures.1 (item_ends c.args.field c.requires.3))
-
-pub loop-j-preserved : goal.loop-j-preserved
-loop-j-preserved c = summed_more c.loop-j.invariant (omega arith) c.item_field-sum.ensures.0 c.item_field-sum.ensures.1
+pub loop-n-preserved : goal.loop-n-preserved
+loop-n-preserved c =
+    let e = rw (entry_from c.args.load.now c.args.from c.loop-n.n-index) at c.item_field-sum.ensures.0 in
+    rw (← add_assoc c.args.from c.loop-n.n-index 1) (summed_more c.loop-n.invariant (omega arith) e c.item_field-sum.ensures.1)
 
 pub returns : goal.returns
-returns c = summed_end c.loop-j.invariant (omega arith) (omega arith)
+returns c = summed_end c.loop-n.invariant (omega arith) (omega arith)

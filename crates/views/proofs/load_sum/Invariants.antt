@@ -1,14 +1,11 @@
 -- `views::load_sum`: what is summed and what is still to come make the whole sum.
-use Prim.Native.Nat.{◌-◌}
-use lib.ListN.{length, get_or}
+use Prim.Native.Nat.{◌+◌}
+use lib.ListN.{get_or}
 use Rattle.meaning.specs.Model.{item}
 use Rattle.meaning.specs.Table.{instance_in}
 use Rattle.table.specs.Filled.{item_most}
 use Rattle.views.proofs.Loads.{Summed}
 use Rattle.views.proofs.load_sum.Given as goal
 
-abbrev pub invariant-loop-j : goal.invariant-loop-j
-invariant-loop-j l = Summed (λ k. get_or (item (instance_in l.limits l.t) k) l.field 0) (item_most l.field) l.load l.from l.sum l.j
-
-abbrev pub decreases-loop-j : goal.decreases-loop-j
-decreases-loop-j l = length l.load - l.j
+abbrev pub invariant-loop-n : goal.invariant-loop-n
+invariant-loop-n l = Summed (λ k. get_or (item (instance_in l.table.named.limits l.table.named.words.now) k) l.field 0) (item_most l.field) l.load l.from l.sum (l.from + l.n-index)

@@ -1,6 +1,6 @@
 -- `views::plant_dock_count`: the plant docks of the items from `j` on, each once: a dock is new where no item above has it.
-use mathlib.Core.Path.{refl}
-use Prim.Native.Nat.{◌-◌}
+use mathlib.Core.Path.{◌≡◌, refl}
+use Prim.Native.Nat.{◌+◌, ◌-◌}
 use native.Mathlib.Omega.{arith}
 use Rattle.views.proofs.Loads.{counted_start, counted_new, counted_again, counted_end}
 use Rattle.views.proofs.plant_dock_count.Goals as goal
@@ -8,14 +8,15 @@ use Rattle.views.proofs.plant_dock_count.Goals as goal
 pub loop-j-init : goal.loop-j-init
 loop-j-init c = counted_start refl
 
-pub item_field-dock-requires : goal.item_field-dock-requires
-item_field-dock-requires c = (c.requires.0, c.requires.1.entries (c.loop-j.j - 1) (omega (arith, c.loop-j.invariant.down.upto)), omega arith)
-
 pub loop-j-preserved-then-not-has_plant_dock : goal.loop-j-preserved-then-not-has_plant_dock
-loop-j-preserved-then-not-has_plant_dock c = counted_new c.loop-j.invariant (omega arith) c.item_field-dock.ensures.0 c.has_plant_dock.ensures c.if-not-has_plant_dock.true-raw
+loop-j-preserved-then-not-has_plant_dock c =
+    let above : c.loop-j.j - 1 + 1 ≡ c.loop-j.j = omega arith in
+    counted_new c.loop-j.invariant (omega arith) c.item_field-dock.ensures.0 (rw above at c.has_plant_dock.ensures) c.if-not-has_plant_dock.true
 
 pub loop-j-preserved : goal.loop-j-preserved
-loop-j-preserved c = counted_again c.loop-j.invariant (omega arith) c.item_field-dock.ensures.0 c.has_plant_dock.ensures c.if-not-has_plant_dock.false-raw
+loop-j-preserved c =
+    let above : c.loop-j.j - 1 + 1 ≡ c.loop-j.j = omega arith in
+    counted_again c.loop-j.invariant (omega arith) c.item_field-dock.ensures.0 (rw above at c.has_plant_dock.ensures) c.if-not-has_plant_dock.false
 
 pub returns : goal.returns
-returns c = counted_end c.loop-j.invariant (omega arith) c.requires.1.few
+returns c = counted_end c.loop-j.invariant (omega arith) c.requires.few

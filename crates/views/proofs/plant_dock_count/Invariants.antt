@@ -4,7 +4,4 @@ use Rattle.views.proofs.Loads.{Counted}
 use Rattle.views.proofs.plant_dock_count.Given as goal
 
 abbrev pub invariant-loop-j : goal.invariant-loop-j
-invariant-loop-j l = Counted (instance_in l.limits l.t) l.load l.j l.count
-
-abbrev pub decreases-loop-j : goal.decreases-loop-j
-decreases-loop-j l = l.j
+invariant-loop-j l = Counted (instance_in l.table.named.limits l.table.named.words.now) l.load l.j l.count

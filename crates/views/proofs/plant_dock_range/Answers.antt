@@ -1,15 +1,11 @@
 -- `views::plant_dock_range`: the range of the items from `j` on, as its definition has it.
 use mathlib.Core.Path.{refl}
-use Prim.Native.Nat.{◌-◌}
 use native.Mathlib.Omega.{arith}
 use Rattle.views.proofs.Loads.{range_start, range_more, range_end}
 use Rattle.views.proofs.plant_dock_range.Goals as goal
 
 pub loop-j-init : goal.loop-j-init
 loop-j-init c = range_start _ _ refl
-
-pub item_field-requires : goal.item_field-requires
-item_field-requires c = (c.requires.0, c.requires.2.entries (c.loop-j.j - 1) (omega (arith, c.loop-j.invariant.upto)), omega arith)
 
 pub loop-j-preserved : goal.loop-j-preserved
 loop-j-preserved c =

@@ -5,7 +5,4 @@ use Rattle.views.proofs.Loads.{range_over}
 use Rattle.views.proofs.plant_dock_range.Given as goal
 
 abbrev pub invariant-loop-j : goal.invariant-loop-j
-invariant-loop-j l = Down (range_over (instance_in l.limits l.t) l.truck) l.load l.j l.range
-
-abbrev pub decreases-loop-j : goal.decreases-loop-j
-decreases-loop-j l = l.j
+invariant-loop-j l = Down (range_over (instance_in l.table.named.limits l.table.named.words.now) l.truck) l.load l.j l.range

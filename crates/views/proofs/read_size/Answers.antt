@@ -5,7 +5,7 @@ use Rattle.views.proofs.Stacks.{nested_less}
 use Rattle.views.proofs.read_size.Goals as goal
 
 pub overflow_sub-result : goal.overflow_sub-result
-overflow_sub-result c = nested_less c.requires.0 c.requires.1 c.load_sum-heights.ensures.0 c.load_sum-nested.ensures.0
+overflow_sub-result c = nested_less c.args.table.filled c.requires c.load_sum-heights.ensures.0 c.load_sum-nested.ensures.0
 
 pub returns : goal.returns
 unfolding size_of

@@ -4,6 +4,3 @@ use Rattle.writing.proofs.write_files.Goals as goal
 
 pub write_within-requires : goal.write_within-requires
 write_within-requires c = small_room _ c.small_limits.ensures.0 c.small_limits.ensures.1
-
-pub returns : goal.returns
-returns c = rw c.small_limits.ensures.0 at c.write_within.ensures

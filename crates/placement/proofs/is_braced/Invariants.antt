@@ -1,9 +1,0 @@
--- `placement::is_braced`: a stack at the front wall is braced; else those before it along the trailer are asked, since no other can brace it.
-use Rattle.placement.proofs.Trailer.{NoBrace}
-use Rattle.placement.proofs.is_braced.Given as goal
-
-abbrev pub invariant-loop-j : goal.invariant-loop-j
-invariant-loop-j l = NoBrace l.rows l.on l.along l.k l.ground l.j
-
-abbrev pub decreases-loop-j : goal.decreases-loop-j
-decreases-loop-j l = l.j

@@ -1,5 +1,0 @@
--- `table::load_words`: the loads stand behind the stacks.
-use Rattle.table.proofs.load_words.Goals as goal
-
-pub returns : goal.returns
-returns c = rw c.loads_at.ensures at c.words_from.ensures

@@ -1,5 +1,0 @@
--- `table::stack_words`: the stacks before it have 8 words each.
-use Rattle.table.proofs.stack_words.Goals as goal
-
-pub returns : goal.returns
-returns c = rw c.stacks_at.ensures at c.words_from.ensures

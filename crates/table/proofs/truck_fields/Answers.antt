@@ -1,9 +1,0 @@
--- `table::truck_fields`: the first words of the truck are its fields.
-use Rattle.table.proofs.Access.{truck_whole}
-use Rattle.table.proofs.truck_fields.Goals as goal
-
-pub returns : goal.returns
-returns c =
-    let words = c.truck_words.ensures in
-    let fields = c.words_from.ensures in
-    (truck_whole c.requires.0 c.requires.1 words.0 words.1 fields.0, fields.1)

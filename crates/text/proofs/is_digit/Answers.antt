@@ -1,9 +1,0 @@
--- The byte lies between the two digits, tested one after the other.
-use borrow.Author.Tests.{le-leb, lt-leb}
-use Rattle.text.proofs.is_digit.Goals as goal
-
-pub returns-then-byte-ge48 : goal.returns-then-byte-ge48
-returns-then-byte-ge48 c = simp (le-leb _ _ c.if-byte-ge48.true)
-
-pub returns-else-byte-ge48 : goal.returns-else-byte-ge48
-returns-else-byte-ge48 c = simp (lt-leb _ _ c.if-byte-ge48.false)
