@@ -6,13 +6,13 @@ ghost use Rattle.std.specs.Prelude.{◌≡◌, cond, ◌+◌, ◌*◌, ◌≤◌
 ghost use Rattle.meaning.specs.Lists.{any};
 ghost use Rattle.meaning.specs.Model.{truck_numbered};
 ghost use Rattle.table.specs.Filled.{TruckNumber};
-ghost use Rattle.manifest.specs.Manifest.{block};
+ghost use Rattle.manifest.specs.Manifest.{block, OneTruck};
 ghost use Rattle.axles.specs.Weights.{places_of, is_on, on_at, weight_at, lever_at, weight_of, levers_of, lever_by};
 ghost use Rattle.axles.specs.Weights.{axle_data, moment_by, middle_holds, rear_holds, middle_under, rear_under, exceeds, LowestPlaces};
 ghost use Rattle.table.specs.Held.{instance_of, stacks_of};
 
 use bounded::{Axles, Load};
-use manifest::{TruckStacks, row, row_word};
+use manifest::{Block, Manifest, row, row_word};
 use meaning::Place;
 use search::{lower_of, place_if};
 use table::Table;
@@ -225,22 +225,22 @@ pub struct WeightPlaces {
 }
 
 // W1 and W2 of one used truck. Every departure is asked, not the last alone.
-pub fn truck_weights(stacks: TruckStacks<'_>) -> WeightPlaces
-    ensures { LowestPlaces (instance_of stacks.entry.manifest.table) (block (stacks_of stacks.entry.manifest.table) stacks.entry.on.start stacks.entry.on.end) result }
+pub fn truck_weights(manifest: Manifest<'_>, on: Block) -> WeightPlaces
+    requires { OneTruck (stacks_of manifest.table) on.start on.end }
+    ensures { LowestPlaces (instance_of manifest.entry.table) (block (stacks_of manifest.entry.table) on.start on.end) result }
 {
-    let start = stacks.on.start;
-    let truck = row_word(stacks.manifest.rows, start, row::TRUCK);
-    let copy = row_word(stacks.manifest.rows, start, row::COPY);
+    let start = on.start;
+    let truck = row_word(manifest.rows, start, row::TRUCK);
+    let copy = row_word(manifest.rows, start, row::COPY);
     let load = Load {
-        rows: stacks.manifest.rows,
-        on: stacks.on,
+        rows: manifest.rows,
+        on,
     };
-    let within = load.total_weight()
-        <= (stacks.manifest.table.truck_field(truck, LOAD_LIMIT) as u64);
+    let within = load.total_weight() <= (manifest.table.truck_field(truck, LOAD_LIMIT) as u64);
     let axles = Axles {
-        line: read_axle_data(stacks.manifest.table, truck),
+        line: read_axle_data(manifest.table, truck),
     };
-    let list = stacks.manifest.table.suppliers(truck);
+    let list = manifest.table.suppliers(truck);
     let mut middle = None;
     let mut rear = None;
     for before in (0..list.len() as u32).rev() {

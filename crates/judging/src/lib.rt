@@ -9,7 +9,7 @@ ghost use Rattle.meaning.specs.Verdict.{refusal, acceptance, first_broken, trans
 ghost use Rattle.search.specs.Lowest.{lowest_in};
 ghost use Rattle.rules.specs.LoadingRules.{verdict_of, rule_places, rule_count};
 ghost use Rattle.rules.specs.declared.Rule.TheVariants.{OfPairs};
-ghost use Rattle.manifest.specs.Manifest.{manifest_at, block};
+ghost use Rattle.manifest.specs.Manifest.{manifest_at, block, OneTruck};
 ghost use Rattle.judging.specs.Judging.{with_rule, AskedBelow, joined, TellsAsked, CountsTrucks};
 ghost use Rattle.judging.specs.Judging.{pair_kept, truck_found, kept_by, all_kept, FirstRank, stack_found, SurveyOf, place_in};
 ghost use Rattle.stackrules.specs.StackRules.{rank_of};
@@ -17,7 +17,7 @@ ghost use Rattle.table.specs.Held.{instance_of, stacks_of};
 
 use axles::{WeightPlaces, truck_weights};
 use costs::{plan_cost, truck_cost};
-use manifest::{Block, Manifest, TruckStacks, row, row_word, truck_start, write_manifest};
+use manifest::{Block, Manifest, row, row_word, truck_start, write_manifest};
 use meaning::{Answer, Place};
 use pairrules::{first_pair, keeps_single_pair, order_by};
 use placement::{Placement, truck_placement};
@@ -141,23 +141,29 @@ fn joined(a: Findings, b: Findings) -> Findings
 }
 
 // What one used truck keeps and breaks, of the kinds that are asked. The keys and the places along the trailer are scratch.
-fn ask_truck(asked: Asked, stacks: TruckStacks<'_>, keys: &mut [u64], along: &mut [u32]) -> Findings
-    requires { (length (stacks_of stacks.manifest.table) ≤ length keys.old) × (length (stacks_of stacks.manifest.table) ≤ length along.old) }
-    ensures told { TellsAsked asked (instance_of stacks.entry.manifest.table) (block (stacks_of stacks.entry.manifest.table) stacks.entry.on.start stacks.entry.on.end) result }
+fn ask_truck(
+    asked: Asked,
+    manifest: Manifest<'_>,
+    on: Block,
+    keys: &mut [u64],
+    along: &mut [u32],
+) -> Findings
+    requires { OneTruck (stacks_of manifest.table) on.start on.end × (length (stacks_of manifest.table) ≤ length keys.old) × (length (stacks_of manifest.table) ≤ length along.old) }
+    ensures told { TellsAsked asked (instance_of manifest.entry.table) (block (stacks_of manifest.entry.table) on.start on.end) result }
     ensures lengths { (length keys.new ≡ length keys.old) × (length along.new ≡ length along.old) }
 {
     let single_pair = if asked.single_pair {
-        keeps_single_pair(stacks)
+        keeps_single_pair(manifest, on)
     } else {
         ALL_KEPT.single_pair
     };
     let placement = if asked.placement {
-        truck_placement(stacks.manifest.rows, stacks.on, keys, along)
+        truck_placement(manifest.rows, on, keys, along)
     } else {
         ALL_KEPT.placement
     };
     let weights = if asked.weights {
-        truck_weights(stacks)
+        truck_weights(manifest, on)
     } else {
         ALL_KEPT.weights
     };
@@ -201,8 +207,7 @@ fn ask_trucks(
     while 0 < end {
         let start = truck_start(manifest.rows, end);
         let on = Block { start, end };
-        let stacks = TruckStacks { manifest, on };
-        found = joined(ask_truck(asked, stacks, keys, along), found);
+        found = joined(ask_truck(asked, manifest, on, keys, along), found);
         used = with_truck(used, manifest, start);
         end = start;
     }

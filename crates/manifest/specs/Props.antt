@@ -3,12 +3,7 @@ use Rattle.std.specs.Prelude.{List, ℕ}
 use denote.Struct.Props as logic
 use Rattle.meaning.specs.declared.Limits.{Limits}
 use Rattle.table.specs.Props.{filled_prop}
-use Rattle.meaning.specs.Model.{Stack}
-use Rattle.manifest.specs.Manifest.{HoldsRows, OneTruck}
+use Rattle.manifest.specs.Manifest.{HoldsRows}
 
 pub holds_prop : (m : Limits) (t rows : List ℕ) → IsProp (HoldsRows m t rows)
 holds_prop m t rows = let table = filled_prop m t in Prim.hlevel (table, logic.props)
-
--- the same of a block that is one used truck's
-pub one_truck_prop : (p : List Stack) (start end : ℕ) → IsProp (OneTruck p start end)
-one_truck_prop p start end = Prim.hlevel logic.props

@@ -6,14 +6,13 @@ ghost use Rattle.std.specs.Prelude.{[], ◌≡◌, ◌↔◌, true, ◌+◌, ◌
 ghost use Rattle.meaning.specs.Rules.{pair_places, single_pair};
 ghost use Rattle.search.specs.Lowest.{lowest_in};
 ghost use Rattle.rules.specs.LoadingRules.{pair_test};
-ghost use Rattle.manifest.specs.Manifest.{manifest_at, block};
+ghost use Rattle.manifest.specs.Manifest.{manifest_at, block, OneTruck};
 ghost use Rattle.pairrules.specs.PairRules.{disjoint_footprints, least_footprint_edge, footprints_in_contact, ranks_before, in_order_at};
 ghost use Rattle.pairrules.specs.PairRules.{Each, SortedRows, whole_plan, BlockOf, KnownBlock, first_partner};
 ghost use Rattle.table.specs.Held.{instance_of, stacks_of};
 
 use manifest::{
-    Block, Manifest, TruckStacks, footprint_at, rank_at, row, row_word, sort, stack_at, truck_end,
-    truck_start,
+    Block, Manifest, footprint_at, rank_at, row, row_word, sort, stack_at, truck_end, truck_start,
 };
 use meaning::Place;
 use rules::PairRule;
@@ -127,12 +126,13 @@ fn is_single_behind(manifest: Manifest<'_>, a: usize, end: usize) -> bool
 }
 
 // Whether no two stacks of a used truck break 17.
-pub fn keeps_single_pair(stacks: TruckStacks<'_>) -> bool
-    ensures { (result ≡ true) ↔ (pair_places single_pair (instance_of stacks.entry.manifest.table)
-        (block (stacks_of stacks.entry.manifest.table) stacks.entry.on.start stacks.entry.on.end) ≡ []) }
+pub fn keeps_single_pair(manifest: Manifest<'_>, on: Block) -> bool
+    requires { OneTruck (stacks_of manifest.table) on.start on.end }
+    ensures { (result ≡ true) ↔ (pair_places single_pair (instance_of manifest.entry.table)
+        (block (stacks_of manifest.entry.table) on.start on.end) ≡ []) }
 {
-    for a in stacks.on.start..stacks.on.end {
-        if !is_single_behind(stacks.manifest, a, stacks.on.end) {
+    for a in on.start..on.end {
+        if !is_single_behind(manifest, a, on.end) {
             return false;
         }
     }

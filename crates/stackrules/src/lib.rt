@@ -32,13 +32,21 @@ use views::{
 
 // ---- 9, not once
 
-// Counts the items of a load, besides what was counted before. The count of item 1 comes first.
+// Where an item's count stands.
+fn count_index(n: u32) -> usize
+    requires { 1 ≤ n }
+    ensures { (result + 1 ≡ n) × (result < 4294967296) }
+{
+    (n as usize) - 1
+}
+
+// Counts the items of a load, besides what was counted before.
 fn count_load(items: &[u32], times: &mut [u32])
     requires { Countable items.now times.old }
     ensures { Counted items.now times.old times.new }
 {
     for n in items {
-        times[*n as usize - 1] += 1;
+        times[count_index(*n)] += 1;
     }
 }
 

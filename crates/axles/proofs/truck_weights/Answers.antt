@@ -7,27 +7,27 @@ use Rattle.axles.proofs.Departures.{axle_start, axle_more, lowest_are}
 use Rattle.axles.proofs.truck_weights.Goals as goal
 
 pub invariant_of-load : goal.invariant_of-load
-invariant_of-load c = record { bounded = rows_bounded c.args.stacks.manifest.holds c.args.stacks.one }
+invariant_of-load c = record { bounded = rows_bounded c.args.manifest.holds c.requires }
 
 pub truck_field-requires : goal.truck_field-requires
 truck_field-requires c =
-    let known = truck_known c.args.stacks.manifest.holds c.args.stacks.one c.row_word-truck.ensures in
+    let known = truck_known c.args.manifest.holds c.requires c.row_word-truck.ensures in
     (known.1, omega arith)
 
 pub read_axle_data-requires : goal.read_axle_data-requires
 read_axle_data-requires c =
-    let known = truck_known c.args.stacks.manifest.holds c.args.stacks.one c.row_word-truck.ensures in
+    let known = truck_known c.args.manifest.holds c.requires c.row_word-truck.ensures in
     known.1
 
 pub suppliers-list-requires : goal.suppliers-list-requires
 suppliers-list-requires c =
-    let known = truck_known c.args.stacks.manifest.holds c.args.stacks.one c.row_word-truck.ensures in
+    let known = truck_known c.args.manifest.holds c.requires c.row_word-truck.ensures in
     known.1
 
 pub invariant_of-axles : goal.invariant_of-axles
 invariant_of-axles c =
-    let known = truck_known c.args.stacks.manifest.holds c.args.stacks.one c.row_word-truck.ensures in
-    rw c.read_axle_data.ensures record { bounded = axles_bounded c.args.stacks.manifest.holds.filled known.1 }
+    let known = truck_known c.args.manifest.holds c.requires c.row_word-truck.ensures in
+    rw c.read_axle_data.ensures record { bounded = axles_bounded c.args.manifest.holds.filled known.1 }
 
 pub loop-before-init : goal.loop-before-init
 loop-before-init c = (axle_start, axle_start)
@@ -40,8 +40,8 @@ loop-before-preserved c = (
 
 pub returns : goal.returns
 returns c =
-    let known = truck_known c.args.stacks.manifest.holds c.args.stacks.one c.row_word-truck.ensures in
-    let same_copy = copy_known c.args.stacks.manifest.holds c.args.stacks.one c.row_word-copy.ensures in
-    lowest_are c.args.stacks.manifest.holds c.args.stacks.one (λ z. record { truck = known.0 z; copy = same_copy z }) c.read_axle_data.ensures
+    let known = truck_known c.args.manifest.holds c.requires c.row_word-truck.ensures in
+    let same_copy = copy_known c.args.manifest.holds c.requires c.row_word-copy.ensures in
+    lowest_are c.args.manifest.holds c.requires (λ z. record { truck = known.0 z; copy = same_copy z }) c.read_axle_data.ensures
     (ap length c.suppliers-list.ensures.0) c.total_weight.ensures c.truck_field.ensures.0 c.place_if-2.ensures
     c.loop-before.invariant.0 c.loop-before.invariant.1 c.loop-before-test.false

@@ -7,11 +7,10 @@ use Rattle.judging.proofs.ask_trucks.Goals as goal
 pub loop-end-init : goal.loop-end-init
 loop-end-init c = (told_start c.stack_count-end.ensures.0, refl, refl)
 
-pub invariant_of-stacks : goal.invariant_of-stacks
-invariant_of-stacks c = record { one = (one_truck c.args.manifest.holds c.loop-end.invariant.0 c.truck_start-start.ensures).0 }
-
 pub ask_truck-requires : goal.ask_truck-requires
-ask_truck-requires c = (omega (arith, c.loop-end.invariant.1, c.requires.0), omega (arith, c.loop-end.invariant.2, c.requires.1))
+ask_truck-requires c =
+    let one = one_truck c.args.manifest.holds c.loop-end.invariant.0 c.truck_start-start.ensures in
+    (one.0, omega (arith, c.loop-end.invariant.1, c.requires.0), omega (arith, c.loop-end.invariant.2, c.requires.1))
 
 pub loop-end-preserved : goal.loop-end-preserved
 loop-end-preserved c =

@@ -8,7 +8,7 @@ use Rattle.pairrules.proofs.keeps_single_pair.Goals as goal
 pub returns-then-not-is_single_behind : goal.returns-then-not-is_single_behind
 returns-then-not-is_single_behind c =
     iff_trans (upto_broken c.loop-a.invariant c.loop-a-test.true c.is_single_behind.ensures c.if-not-is_single_behind.true)
-    (single_block (instance_in c.args.stacks.manifest.table.named.limits c.args.stacks.manifest.table.named.words.now) c.args.stacks.one)
+    (single_block (instance_in c.args.manifest.table.named.limits c.args.manifest.table.named.words.now) c.requires)
 
 pub returns : goal.returns
-returns c = iff_trans (upto_all c.loop-a.invariant c.loop-a-test.false) (single_block (instance_in c.args.stacks.manifest.table.named.limits c.args.stacks.manifest.table.named.words.now) c.args.stacks.one)
+returns c = iff_trans (upto_all c.loop-a.invariant c.loop-a-test.false) (single_block (instance_in c.args.manifest.table.named.limits c.args.manifest.table.named.words.now) c.requires)

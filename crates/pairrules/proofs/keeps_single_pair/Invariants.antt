@@ -10,4 +10,4 @@ use Rattle.pairrules.proofs.Places.{Upto}
 use Rattle.pairrules.proofs.keeps_single_pair.Given as goal
 
 abbrev pub invariant-loop-a : goal.invariant-loop-a
-invariant-loop-a l = Upto (λ j. Each (λ k. single_pair (instance_in l.stacks.manifest.table.named.limits l.stacks.manifest.table.named.words.now) (manifest_at (stacks_in l.stacks.manifest.table.named.limits l.stacks.manifest.table.named.words.now) j) (manifest_at (stacks_in l.stacks.manifest.table.named.limits l.stacks.manifest.table.named.words.now) k) ≡ true) (j + 1) l.stacks.on.end) l.stacks.on.start l.stacks.on.end l.a
+invariant-loop-a l = Upto (λ j. Each (λ k. single_pair (instance_in l.manifest.table.named.limits l.manifest.table.named.words.now) (manifest_at (stacks_in l.manifest.table.named.limits l.manifest.table.named.words.now) j) (manifest_at (stacks_in l.manifest.table.named.limits l.manifest.table.named.words.now) k) ≡ true) (j + 1) l.on.end) l.on.start l.on.end l.a
