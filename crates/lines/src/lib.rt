@@ -33,7 +33,7 @@ pub enum LineRefused {
 pub type Progress<'a> = Result<Cursor<'a>, LineRefused>;
 
 // A value that was read, and the cursor behind its line.
-#[derive(Clone, Copy)]
+#[derive(Clone, Copy, PartialEq, Eq)]
 pub struct LineValue<'a, T> {
     pub value: T,
     pub next: Cursor<'a>,
@@ -43,7 +43,7 @@ pub struct LineValue<'a, T> {
 pub type LineResult<'a, T> = Result<LineValue<'a, T>, LineRefused>;
 
 // A line whose numbers are stored and not yet judged: how many lines stand before it, the cursor behind it, and how many numbers it has.
-#[derive(Clone, Copy)]
+#[derive(Clone, Copy, PartialEq, Eq)]
 pub struct Stored<'a> {
     pub line: usize,
     pub next: Cursor<'a>,
