@@ -16,7 +16,6 @@ ghost use Rattle.lines.specs.Progress.{entries_of, judged_as, judged_entries_as,
 pub mod cursor;
 
 pub use cursor::Cursor;
-
 use meaning::Limits;
 use ranges::{are_identifiers, head_number_in_range};
 use table::clear;
@@ -54,12 +53,7 @@ pub struct Stored<'a> {
 pub type StoredLine<'a> = Result<Stored<'a>, LineRefused>;
 
 // Stores the numbers of the next line. Their ranges are not judged yet.
-pub fn stored_line<'a>(
-    p: Progress<'a>,
-    key: &[u8],
-    least: usize,
-    out: &mut [u32],
-) -> StoredLine<'a>
+pub fn stored_line<'a>(p: Progress<'a>, key: &[u8], least: usize, out: &mut [u32]) -> StoredLine<'a>
     ensures { StoredPromise p.entry key.now least out.old result out.new }
 {
     let here = p?;

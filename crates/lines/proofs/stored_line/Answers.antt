@@ -12,8 +12,10 @@ returns-in_err-parsed c =
 
 pub invariant_of-next : goal.invariant_of-next
 invariant_of-next c =
-    record { within = next_within c.args.key.now c.args.out.now c.args.least c.args.p _ c.in_ok-here.was c.parse_line.result
-    c.parse_line.ensures.answer c.in_ok-parsed.parsed (there c.parse_line.result _ (sym c.ok_or.ensures.value ∙ c.in_ok-parsed.was)) }
+    record {
+      within = next_within c.args.key.now c.args.out.now c.args.least c.args.p _ c.in_ok-here.was c.parse_line.result
+          c.parse_line.ensures.answer c.in_ok-parsed.parsed (there c.parse_line.result _ (sym c.ok_or.ensures.value ∙ c.in_ok-parsed.was));
+    }
 
 pub returns : goal.returns
 returns c =
