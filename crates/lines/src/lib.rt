@@ -8,7 +8,6 @@ ghost use Rattle.meaning.specs.Text.{bytes};
 ghost use Rattle.meaning.specs.Reader.{line};
 ghost use Rattle.meaning.specs.Files.{identifiers_line, number_line};
 ghost use Rattle.meaning.specs.Table.{counted_words};
-ghost use Rattle.table.specs.Filled.{Bounded};
 ghost use Rattle.ranges.specs.Ranges.{head_range};
 ghost use Rattle.lines.specs.Progress.{Key, resumed, Follows, ended_as, progress_of, told};
 ghost use Rattle.lines.specs.Progress.{entries_of, judged_as, judged_entries_as, StoredPromise, ReadEntries};
@@ -16,9 +15,9 @@ ghost use Rattle.lines.specs.Progress.{entries_of, judged_as, judged_entries_as,
 pub mod cursor;
 
 pub use cursor::Cursor;
-use meaning::Limits;
 use ranges::{are_identifiers, head_number_in_range};
 use table::clear;
+use table::layout::Layout;
 use text::parse_line;
 
 // Why a line is refused, with how many lines stand before it.
@@ -137,21 +136,21 @@ pub fn counted_line<'a>(p: Progress<'a>, key: &[u8], out: &mut [u32]) -> LineRes
     Ok(entries)
 }
 
-// A line with one number of the head, told by its place there.
+// A line with one number of the head, told by its place there. (Not by a range: each caller would look the range up by the same place.)
 pub fn head_line<'a>(
-    limits: Limits,
+    layout: Layout,
     p: Progress<'a>,
     key: &[u8],
     place: usize,
 ) -> LineResult<'a, u32>
-    requires { Bounded limits × (place < 6) }
+    requires { place < 6 }
     ensures says { (k : Key) → bytes k ≡ key.now
-        → told result ≡ resumed p.entry (number_line k (head_range limits place)) }
-    ensures within { Follows p.entry (progress_of result) × IfOk result (λ f. f.value ≤ (head_range limits place).high) }
+        → told result ≡ resumed p.entry (number_line k (head_range layout.limits place)) }
+    ensures within { Follows p.entry (progress_of result) × IfOk result (λ f. f.value ≤ (head_range layout.limits place).high) }
 {
     let mut number: [u32; 1] = [0];
     let stored = stored_line(p, key, 1, &mut number);
     let value = number[0];
-    let next = judged(stored, head_number_in_range(limits, place, value))?;
+    let next = judged(stored, head_number_in_range(layout, place, value))?;
     Ok(LineValue { value, next })
 }
