@@ -8,14 +8,12 @@ ghost use Rattle.meaning.specs.Places.{lowest};
 ghost use Rattle.meaning.specs.Model.{IS};
 ghost use Rattle.meaning.specs.Files.{all_within, stack_ranges};
 ghost use Rattle.meaning.specs.Check.{same_length_and_width, code_clashes};
-ghost use Rattle.table.specs.Filled.{Bounded};
 ghost use Rattle.ranges.specs.Clashes.{item_at, items_in, clash_place};
 ghost use Rattle.ranges.specs.Ranges.{head_range, item_ranges_up_to, truck_ranges_up_to, row_numbers};
 
-use meaning::Limits;
 use table::fields::{self, IDE, IH, IL, IW};
 use table::is_listed;
-use table::layout::{ITEM_WORDS, STACK_WORDS};
+use table::layout::{ITEM_WORDS, Layout, STACK_WORDS};
 
 // The last day of document 01. The tests of a line take the last time as a parameter.
 pub const LAST_DAY: u32 = 399;
@@ -81,10 +79,11 @@ pub fn are_identifiers(words: &[u32]) -> bool
 // ---- the head, items and trucks
 
 // Whether a number of the head, told by its place there, is in range.
-pub fn head_number_in_range(limits: Limits, place: usize, number: u32) -> bool
-    requires { Bounded limits × (place < 6) }
-    ensures { result ≡ between (head_range limits place).low (head_range limits place).high number }
+pub fn head_number_in_range(layout: Layout, place: usize, number: u32) -> bool
+    requires { place < 6 }
+    ensures { result ≡ between (head_range layout.limits place).low (head_range layout.limits place).high number }
 {
+    let limits = layout.limits;
     let ranges = [
         Range(0, 1000), // αT
         Range(0, 1000), // αI

@@ -14,12 +14,12 @@ use ranges::{
     LAST_DAY, all_between, are_identifiers, head_number_in_range, is_repeated, item_in_range,
     lowest_clash, stack_in_range, truck_in_range,
 };
+use table::NamedWords;
 use table::layout::{
-    BEHIND_DOCKS, DOCK_COUNTS, DOCKS, ITEM_COUNT, ITEM_WORDS, LOAD_COUNT, LOAD_FIRST, PLANT_DOCKS,
-    PRODUCTS, STACK_COUNT, STACK_FIELDS, STACK_WORDS, SUPPLIER_DOCKS, SUPPLIERS, TRUCK_COUNT,
-    TRUCK_WORDS,
+    BEHIND_DOCKS, DOCK_COUNTS, DOCKS, ITEM_COUNT, ITEM_WORDS, LOAD_COUNT, LOAD_FIRST, Layout,
+    PLANT_DOCKS, PRODUCTS, STACK_COUNT, STACK_FIELDS, STACK_WORDS, SUPPLIER_DOCKS, SUPPLIERS,
+    TRUCK_COUNT, TRUCK_WORDS,
 };
-use table::{NamedWords, named_words};
 
 // ---- words of one part
 
@@ -47,13 +47,13 @@ fn entries_stored(count: u32, words: &[u32]) -> bool
 // ---- the head
 
 // Whether the six numbers of the head are in their ranges, and the words behind them zero.
-fn head_stored(words: &[u32], limits: Limits) -> bool
-    requires { PrintRoom limits × (length words.now ≡ 16) }
-    ensures { result ≡ head_stored limits words.now }
+fn head_stored(words: &[u32], layout: Layout) -> bool
+    requires { length words.now ≡ 16 }
+    ensures { result ≡ head_stored layout.limits words.now }
 {
     let behind = STACK_COUNT + 1;
     for place in 0..behind {
-        if !head_number_in_range(limits, place, words[place]) {
+        if !head_number_in_range(layout, place, words[place]) {
             return false;
         }
     }
@@ -217,11 +217,12 @@ pub fn is_stored(t: &[u32], limits: Limits) -> bool
     requires { PrintRoom limits }
     ensures { result ≡ stored limits t.now }
 {
-    if t.len() < named_words(limits) {
+    let layout = Layout { limits };
+    if t.len() < layout.named_words() {
         return false;
     }
     let table = NamedWords { words: t, limits };
-    if !head_stored(table.head(), limits) {
+    if !head_stored(table.head(), layout) {
         return false;
     }
     if !instance_stored(table) {

@@ -6,7 +6,7 @@ use Rattle.meaning.specs.declared.Limits.{Limits}
 use Rattle.meaning.specs.Lists.{Every}
 use Rattle.meaning.specs.Model.{Stack, number}
 use Rattle.meaning.specs.Meets.{StacksMeet}
-use Rattle.table.specs.Filled.{Room, Filled}
+use Rattle.table.specs.Filled.{Bounded, Room, Filled}
 
 every_prop : {A : Type 0} (P : A → Type 0) (l : List A) → ((x : A) → IsProp (P x)) → IsProp (Every P l)
 every_prop P [] h = Unit-prop
@@ -24,3 +24,7 @@ filled_prop m t = Prim.hlevel (every_prop, stacks_prop, logic.props)
 -- the same of a table that has room
 pub room_prop : (m : Limits) (t : List ℕ) → IsProp (Room m t)
 room_prop m t = Prim.hlevel logic.props
+
+-- the same of limits within their bounds
+pub bounded_prop : (m : Limits) → IsProp (Bounded m)
+bounded_prop m = Prim.hlevel logic.props

@@ -3,7 +3,7 @@
 
 ghost use Rattle.std.specs.Prelude.{◌≡◌, ◌+◌, ◌*◌, ◌≤◌, ◌<◌, length, get_or, take, drop, replicate, position, ◌==◌};
 ghost use Rattle.meaning.specs.Lists.{listed, order_in};
-ghost use Rattle.meaning.specs.Limits.{small, trucks_at, stacks_at, loads_at, named};
+ghost use Rattle.meaning.specs.Limits.{small};
 ghost use Rattle.meaning.specs.Model.{item, truck_numbered, truck};
 ghost use Rattle.table.specs.Filled.{Bounded, LoadOfItems, stack_at, ItemNumber, TruckNumber, docks_at_order};
 ghost use Rattle.table.specs.Held.{instance_of, stacks_of};
@@ -38,38 +38,6 @@ pub fn small_limits() -> Limits
         loads: 256,
         bytes: 65535,
     }
-}
-
-// The first word of the trucks, behind the head's 16 words and the items.
-pub fn trucks_at(limits: Limits) -> usize
-    requires { Bounded limits }
-    ensures { result ≡ trucks_at limits }
-{
-    HEAD_WORDS + ITEM_WORDS * limits.items
-}
-
-// The first word of the stacks, behind the trucks.
-pub fn stacks_at(limits: Limits) -> usize
-    requires { Bounded limits }
-    ensures { result ≡ stacks_at limits }
-{
-    trucks_at(limits) + TRUCK_WORDS * limits.trucks
-}
-
-// The first word of the loads, behind the stacks.
-fn loads_at(limits: Limits) -> usize
-    requires { Bounded limits }
-    ensures { result ≡ loads_at limits }
-{
-    stacks_at(limits) + STACK_WORDS * limits.stacks
-}
-
-// How many words are named.
-pub fn named_words(limits: Limits) -> usize
-    requires { Bounded limits }
-    ensures { result ≡ named limits }
-{
-    loads_at(limits) + limits.loads
 }
 
 // Every word becomes zero.

@@ -6,8 +6,8 @@ ghost use Rattle.meaning.specs.Table.{truck_place, stack_place};
 ghost use Rattle.table.specs.Filled.{Room, item_place};
 ghost use Rattle.table.specs.Props.{room_prop};
 
-use crate::layout::{HEAD_WORDS, ITEM_WORDS, STACK_WORDS, TRUCK_WORDS};
-use crate::{loads_at, stacks_at, trucks_at, words_from};
+use crate::layout::{HEAD_WORDS, ITEM_WORDS, Layout, STACK_WORDS, TRUCK_WORDS};
+use crate::words_from;
 use meaning::Limits;
 
 // A lent table with room for the words that the limits name.
@@ -19,6 +19,15 @@ pub struct NamedWords<'a> {
 }
 
 impl<'a> NamedWords<'a> {
+    // Where its parts begin.
+    fn layout(self) -> Layout
+        ensures { result.limits ≡ self.entry.limits }
+    {
+        Layout {
+            limits: self.limits,
+        }
+    }
+
     // The words of the head.
     pub fn head(self) -> &'a [u32]
         ensures { (result.now ≡ take 16 self.entry.words.now) × (length result.now ≡ 16) }
@@ -40,7 +49,7 @@ impl<'a> NamedWords<'a> {
         requires { (1 ≤ n) × (n ≤ self.limits.trucks) }
         ensures { (result.now ≡ take 160 (drop (truck_place self.entry.limits n) self.entry.words.now)) × (length result.now ≡ 160) }
     {
-        let first = trucks_at(self.limits) + TRUCK_WORDS * (n as usize - 1);
+        let first = self.layout().trucks_at() + TRUCK_WORDS * (n as usize - 1);
         words_from(self.words, first, TRUCK_WORDS)
     }
 
@@ -49,7 +58,7 @@ impl<'a> NamedWords<'a> {
         requires { s < self.limits.stacks }
         ensures { (result.now ≡ take 8 (drop (stack_place self.entry.limits s) self.entry.words.now)) × (length result.now ≡ 8) }
     {
-        let first = stacks_at(self.limits) + STACK_WORDS * s;
+        let first = self.layout().stacks_at() + STACK_WORDS * s;
         words_from(self.words, first, STACK_WORDS)
     }
 
@@ -67,7 +76,7 @@ impl<'a> NamedWords<'a> {
             × (length result.now ≡ 160 * self.entry.limits.trucks) }
     {
         let count = TRUCK_WORDS * self.limits.trucks;
-        words_from(self.words, trucks_at(self.limits), count)
+        words_from(self.words, self.layout().trucks_at(), count)
     }
 
     // The words of all stacks.
@@ -76,7 +85,7 @@ impl<'a> NamedWords<'a> {
             × (length result.now ≡ 8 * self.entry.limits.stacks) }
     {
         let count = STACK_WORDS * self.limits.stacks;
-        words_from(self.words, stacks_at(self.limits), count)
+        words_from(self.words, self.layout().stacks_at(), count)
     }
 
     // The words of all loads.
@@ -84,6 +93,6 @@ impl<'a> NamedWords<'a> {
         ensures { (result.now ≡ take self.entry.limits.loads (drop (loads_at self.entry.limits) self.entry.words.now))
             × (length result.now ≡ self.entry.limits.loads) }
     {
-        words_from(self.words, loads_at(self.limits), self.limits.loads)
+        words_from(self.words, self.layout().loads_at(), self.limits.loads)
     }
 }
