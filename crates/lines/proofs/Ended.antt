@@ -7,7 +7,7 @@ use lib.ListN.{length, drop, length-drop, drop_of_length-le}
 use Rattle.meaning.specs.Reader.{found, wrong_form, onward, at_end}
 use Rattle.meaning.proofs.Tests.{by_less}
 use Rattle.std.specs.Prelude.{Ok, Err}
-use Rattle.lines.specs.Progress.{Progress, reached, Going, WithinFile, ended_as}
+use Rattle.lines.specs.Progress.{Progress, reached, Going, Follows, ended_as}
 use Rattle.lines.proofs.Follow.{onward_refused}
 
 module _ {A : Type 0} (a : A) where
@@ -21,19 +21,20 @@ module _ {A : Type 0} (a : A) where
   unfolding at_end
   none_left n bs e = rw e
 
-  pub ended_reached : (file : List ℕ) (p : Progress) → reached file a (ended_as (length file) p) ≡ onward (reached file a p) at_end
+  pub ended_reached : (p : Progress) → reached a (ended_as p) ≡ onward (reached a p) at_end
   unfolding onward
-  ended_reached file (Ok c) =
+  ended_reached (Ok c) =
       let n = suc c.line in
+      let file = c.file.now in
       let rest = drop c.at file in
-      by_less (λ (p : Progress). reached file a p ≡ at_end a n rest) c.at (length file)
+      by_less (λ (p : Progress). reached a p ≡ at_end a n rest) c.at (length file)
       (λ left. sym (bytes_left n rest (omega (arith, length-drop c.at file)))) (λ end. sym (none_left n rest (drop_of_length-le file end)))
-  ended_reached file (Err e) = sym (onward_refused e at_end)
+  ended_reached (Err e) = sym (onward_refused e at_end)
 
-pub ended_within : (file : List ℕ) (p : Progress) → WithinFile file p → WithinFile file (ended_as (length file) p)
-ended_within file (Ok c) h = by_less (WithinFile file) c.at (length file) (λ left. omega (arith, h)) (λ end. h)
-ended_within file (Err e) h = h
+pub ended_follows : (p : Progress) → Follows p (ended_as p)
+ended_follows (Ok c) = by_less (Follows (Ok c)) c.at (length c.file.now) (λ left. omega (arith, c.within)) (λ end. refl)
+ended_follows (Err e) = refl
 
-pub ended_going : (file : List ℕ) (p : Progress) → Going (ended_as (length file) p) → Going p
-ended_going file (Ok c) g = tt
-ended_going file (Err e) g = g
+pub ended_going : (p : Progress) → Going (ended_as p) → Going p
+ended_going (Ok c) g = tt
+ended_going (Err e) g = g

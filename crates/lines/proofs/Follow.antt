@@ -10,7 +10,7 @@ use Rattle.meaning.proofs.Outcomes.{Leaves, leaves_onward, leaves_line}
 use Rattle.std.specs.Prelude.{Ok, Err, IsErrAnd}
 use Rattle.lines.specs.declared.LineRefused.{LineRefused}
 use Rattle.lines.specs.declared.LineRefused.TheVariants.{WrongForm, OutOfRange}
-use Rattle.lines.specs.Progress.{Progress, outcome_of, reached, resumed, Going, ReadInto}
+use Rattle.lines.specs.Progress.{Progress, outcome_of, reached, resumed, Going, Follows, ReadInto}
 
 -- ---- outcomes
 -- going on in the same way
@@ -54,99 +54,111 @@ leaves_then P (found a n bs) next h = h a n bs
 leaves_then P (wrong_form n) next h = tt
 leaves_then P (out_of_range n) next h = tt
 
+-- ---- the same file
+pub follows_self : (p : Progress) → Follows p p
+follows_self (Ok c) = refl
+follows_self (Err e) = refl
+
+-- further on, and then further still
+pub follows_on : (p q r : Progress) → Follows p q → Follows q r → Follows p r
+follows_on (Ok c) (Ok d) (Ok x) h k = k ∙ h
+follows_on (Ok c) (Ok d) (Err e) h k = rw (← h) k
+follows_on (Ok c) (Err e) r h k = rw k h
+follows_on (Err e) q r h k = rw h at k
+
 -- ---- one reader after another
-module _ {A : Type 0} (file : List ℕ) where
+module _ {A : Type 0} where
   -- from what is reached on, the value is known
-  pub onward_reached : {B : Type 0} (a : A) (q : Progress) (next : A → Reader B) → onward (reached file a q) next ≡ resumed file q (next a)
+  pub onward_reached : {B : Type 0} (a : A) (q : Progress) (next : A → Reader B) → onward (reached a q) next ≡ resumed q (next a)
   unfolding onward
   onward_reached a (Ok c) next = refl
   onward_reached a (Err e) next = onward_refused e next
 
   -- past the first reader of a block
-  pub past_reader : {B : Type 0} (p q : Progress) (a : A) (reader : Reader A) (next : A → Reader B) → reached file a q ≡ resumed file p reader
-      → resumed file p (reader >>= next) ≡ resumed file q (next a)
+  pub past_reader : {B : Type 0} (p q : Progress) (a : A) (reader : Reader A) (next : A → Reader B) → reached a q ≡ resumed p reader
+      → resumed p (reader >>= next) ≡ resumed q (next a)
   unfolding onward
   past_reader {B} (Ok c) q a reader next e = ap {B = Outcome B} (λ x. onward x next) (sym e) ∙ onward_reached a q next
   past_reader {B} (Err r) q a reader next e = sym (onward_refused r next) ∙ ap {B = Outcome B} (λ x. onward x next) (sym e) ∙ onward_reached a q next
 
   -- a block that only gives a value has reached it
-  pub given_reached : (a : A) (q : Progress) → resumed file q (give a) ≡ reached file a q
+  pub given_reached : (a : A) (q : Progress) → resumed q (give a) ≡ reached a q
   given_reached a (Ok c) = refl
   given_reached a (Err e) = refl
 
 -- a refusal stays: where none came out, none came in
-going_before : {B : Type 0} (file : List ℕ) (b : B) (p q : Progress) (R : Reader B) → reached file b q ≡ resumed file p R → Going q → Going p
-going_before file b (Ok c) q R e g = tt
-going_before file b (Err (WrongForm n)) (Ok d) R e g = cc
-going_before file b (Err (OutOfRange n)) (Ok d) R e g = cc
-going_before file b (Err r) (Err r') R e g = g
+going_before : {B : Type 0} (b : B) (p q : Progress) (R : Reader B) → reached b q ≡ resumed p R → Going q → Going p
+going_before b (Ok c) q R e g = tt
+going_before b (Err (WrongForm n)) (Ok d) R e g = cc
+going_before b (Err (OutOfRange n)) (Ok d) R e g = cc
+going_before b (Err r) (Err r') R e g = g
 
-pub no_refusal : {A : Type 0} {file : List ℕ} {reader : Reader A} {words : A → List ℕ} {p q : Progress} {out : List ℕ}
-    → ReadInto file reader words p q out → Going q → Going p
-no_refusal {file = file} {reader = reader} {p = p} {q = q} i g = going_before file i.value p q reader i.says g
+pub no_refusal : {A : Type 0} {reader : Reader A} {words : A → List ℕ} {p q : Progress} {out : List ℕ}
+    → ReadInto reader words p q out → Going q → Going p
+no_refusal {reader = reader} {p = p} {q = q} i g = going_before i.value p q reader i.says g
 
 -- after a refusal the value does not matter
-pub same_reached : {A : Type 0} (file : List ℕ) (a b : A) (p : Progress) → (Going p → a ≡ b) → reached file a p ≡ reached file b p
-same_reached file a b (Ok c) h = rw (h tt) refl
-same_reached file a b (Err e) h = refl
+pub same_reached : {A : Type 0} (a b : A) (p : Progress) → (Going p → a ≡ b) → reached a p ≡ reached b p
+same_reached a b (Ok c) h = rw (h tt) refl
+same_reached a b (Err e) h = refl
 
 -- nor does the reader
-pub same_resumed : {A : Type 0} (file : List ℕ) (p : Progress) (reader reader' : Reader A) → (Going p → reader ≡ reader')
-    → resumed file p reader ≡ resumed file p reader'
-same_resumed {A} file (Ok c) reader reader' h = ap (λ (r : Reader A). r (suc c.line) (drop c.at file)) (h tt)
-same_resumed file (Err e) reader reader' h = refl
+pub same_resumed : {A : Type 0} (p : Progress) (reader reader' : Reader A) → (Going p → reader ≡ reader')
+    → resumed p reader ≡ resumed p reader'
+same_resumed {A} (Ok c) reader reader' h = ap (λ (r : Reader A). r (suc c.line) (drop c.at c.file.now)) (h tt)
+same_resumed (Err e) reader reader' h = refl
 
 -- what a reader always leaves is so of what was read
-pub read_has : {A : Type 0} (file : List ℕ) (a : A) (P : A → Type 0) (p q : Progress) (reader : Reader A) → ((n : ℕ) (bs : List ℕ) → Leaves (λ x rest. P x) (reader n bs))
-    → reached file a q ≡ resumed file p reader → Going q → P a
-read_has file a P (Ok c) (Ok d) reader h e g = subst (Leaves (λ x rest. P x)) (sym e) (h (suc c.line) (drop c.at file))
-read_has file a P (Ok c) (Err r) reader h e g = absurd g
-read_has file a P (Err r) q reader h e g = absurd (going_before file a (Err r) q reader e g)
+pub read_has : {A : Type 0} (a : A) (P : A → Type 0) (p q : Progress) (reader : Reader A) → ((n : ℕ) (bs : List ℕ) → Leaves (λ x rest. P x) (reader n bs))
+    → reached a q ≡ resumed p reader → Going q → P a
+read_has a P (Ok c) (Ok d) reader h e g = subst (Leaves (λ x rest. P x)) (sym e) (h (suc c.line) (drop c.at c.file.now))
+read_has a P (Ok c) (Err r) reader h e g = absurd g
+read_has a P (Err r) q reader h e g = absurd (going_before a (Err r) q reader e g)
 
 -- the entries of a line that was not refused meet its form
-pub read_meets : (file ns : List ℕ) (f : Form) (p r : Progress) → reached file ns r ≡ resumed file p (line f) → Going r → Meets f ns
-read_meets file ns f p r e g = read_has file ns (Meets f) p r (line f) (λ n bs. leaves_line f _ n bs (λ l rest ms s t m. m)) e g
+pub read_meets : (ns : List ℕ) (f : Form) (p r : Progress) → reached ns r ≡ resumed p (line f) → Going r → Meets f ns
+read_meets ns f p r e g = read_has ns (Meets f) p r (line f) (λ n bs. leaves_line f _ n bs (λ l rest ms s t m. m)) e g
 
 -- what is read into a part is read into the whole
-pub read_within : {A : Type 0} (file : List ℕ) (reader : Reader A) (words : A → List ℕ) (p r : Progress) (out : List ℕ) (whole : List ℕ → List ℕ)
-    → ReadInto file reader words p r out → ReadInto file reader (λ a. whole (words a)) p r (whole out)
-read_within file reader words p r out whole i =
-    record { value = i.value; says = i.says; holds = λ g. ap whole (i.holds g); within = i.within }
+pub read_within : {A : Type 0} (reader : Reader A) (words : A → List ℕ) (p r : Progress) (out : List ℕ) (whole : List ℕ → List ℕ)
+    → ReadInto reader words p r out → ReadInto reader (λ a. whole (words a)) p r (whole out)
+read_within reader words p r out whole i =
+    record { value = i.value; says = i.says; holds = λ g. ap whole (i.holds g); follows = i.follows }
 
 -- ---- a reader and then those behind it
 -- what is read behind the first reader is read from where that began
-abbrev pub behind : {A B : Type 0} {file : List ℕ} {R : Reader A} {w : A → List ℕ} {p q : Progress} {front : List ℕ} (first : ReadInto file R w p q front)
-    (next : A → Reader B) → {w' : B → List ℕ} {r : Progress} {out : List ℕ} → ReadInto file (next first.value) w' q r out → ReadInto file (R >>= next) w' p r out
-behind {file = file} {R = R} {p = p} {q = q} first next rest = record {
+abbrev pub behind : {A B : Type 0} {R : Reader A} {w : A → List ℕ} {p q : Progress} {front : List ℕ} (first : ReadInto R w p q front)
+    (next : A → Reader B) → {w' : B → List ℕ} {r : Progress} {out : List ℕ} → ReadInto (next first.value) w' q r out → ReadInto (R >>= next) w' p r out
+behind {R = R} {p = p} {q = q} first next rest = record {
   value = rest.value;
-  says = rest.says ∙ sym (past_reader file p q first.value R next first.says);
+  says = rest.says ∙ sym (past_reader p q first.value R next first.says);
   holds = rest.holds;
-  within = rest.within;
+  follows = follows_on p q _ first.follows rest.follows;
 }
 
 -- nothing is read behind the last one
-abbrev pub behind_last : {A B : Type 0} {file : List ℕ} {R : Reader A} {w : A → List ℕ} {p q : Progress} {front : List ℕ} (last : ReadInto file R w p q front)
-    (f : A → B) → {w' : B → List ℕ} {out : List ℕ} → (Going q → out ≡ w' (f last.value)) → ReadInto file (R >>= λ a. give (f a)) w' p q out
-behind_last {file = file} {R = R} {p = p} {q = q} last f stands = record {
+abbrev pub behind_last : {A B : Type 0} {R : Reader A} {w : A → List ℕ} {p q : Progress} {front : List ℕ} (last : ReadInto R w p q front)
+    (f : A → B) → {w' : B → List ℕ} {out : List ℕ} → (Going q → out ≡ w' (f last.value)) → ReadInto (R >>= λ a. give (f a)) w' p q out
+behind_last {R = R} {p = p} {q = q} last f stands = record {
   value = f last.value;
-  says = sym (past_reader file p q last.value R (λ a. give (f a)) last.says ∙ given_reached file (f last.value) q);
+  says = sym (past_reader p q last.value R (λ a. give (f a)) last.says ∙ given_reached (f last.value) q);
   holds = stands;
-  within = last.within;
+  follows = last.follows;
 }
 
 -- a refusal of the first reader is one of all, and nothing is said of the words then
-pub stopped : {A B : Type 0} {file : List ℕ} {R : Reader A} {w : A → List ℕ} {p : Progress} {e : LineRefused} {front : List ℕ}
-    → ReadInto file R w p (Err e) front → (next : A → Reader B) → B → {w' : B → List ℕ} {out : List ℕ} → ReadInto file (R >>= next) w' p (Err e) out
-stopped {file = file} {R = R} {p = p} {e = e} first next b = record {
+pub stopped : {A B : Type 0} {R : Reader A} {w : A → List ℕ} {p : Progress} {e : LineRefused} {front : List ℕ}
+    → ReadInto R w p (Err e) front → (next : A → Reader B) → B → {w' : B → List ℕ} {out : List ℕ} → ReadInto (R >>= next) w' p (Err e) out
+stopped {R = R} {p = p} {e = e} first next b = record {
   value = b;
-  says = sym (past_reader file p (Err e) first.value R next first.says);
+  says = sym (past_reader p (Err e) first.value R next first.says);
   holds = λ g. absurd g;
-  within = first.within;
+  follows = first.follows;
 }
 
 -- what a `?` hands on is the refusal
-pub handed_on : {A : Type 0} {file : List ℕ} {R : Reader A} {w : A → List ℕ} {p r : Progress} {e : LineRefused} {out : List ℕ}
-    → IsErrAnd r (λ x. x ≡ e) → ReadInto file R w p (Err e) out → ReadInto file R w p r out
+pub handed_on : {A : Type 0} {R : Reader A} {w : A → List ℕ} {p r : Progress} {e : LineRefused} {out : List ℕ}
+    → IsErrAnd r (λ x. x ≡ e) → ReadInto R w p (Err e) out → ReadInto R w p r out
 handed_on {r = Ok c} h i = absurd h
 handed_on {r = Err x} h i = rw h i
 
@@ -172,28 +184,27 @@ module _ {A : Type 0} (R : Reader A) where
       onward_twice (times m R n₁ bs₁) _ _
       ∙ onward_same (times m R n₁ bs₁) _ _ (λ rest n₂ bs₂. ap (λ (l : List A). found l n₂ bs₂) (sym (append_assoc vs (v ∷ []) rest))))
 
-  module _ (file : List ℕ) where
-    -- as many values as times
-    pub times_count : (k : ℕ) (p r : Progress) (vs : List A) → reached file vs r ≡ resumed file p (times k R) → Going r → length vs ≡ k
-    times_count k p r vs says g = read_has file vs (λ vs. length vs ≡ k) p r (times k R) (leaves_times k) says g
+  -- as many values as times
+  pub times_count : (k : ℕ) (p r : Progress) (vs : List A) → reached vs r ≡ resumed p (times k R) → Going r → length vs ≡ k
+  times_count k p r vs says g = read_has vs (λ vs. length vs ≡ k) p r (times k R) (leaves_times k) says g
 
-    -- before the first
-    pub times_first : (n : ℕ) (p : Progress) → onward (reached file [] p) (more n) ≡ resumed file p (times n R)
-    unfolding onward
-    times_first n (Ok c) = onward_give (times n R (suc c.line) (drop c.at file))
-    times_first n (Err e) = onward_refused e (more n)
+  -- before the first
+  pub times_first : (n : ℕ) (p : Progress) → onward (reached [] p) (more n) ≡ resumed p (times n R)
+  unfolding onward
+  times_first n (Ok c) = onward_give (times n R (suc c.line) (drop c.at c.file.now))
+  times_first n (Err e) = onward_refused e (more n)
 
-    -- after one more
-    pub times_next : (vs : List A) (v : A) (m : ℕ) (q q' : Progress) → reached file v q' ≡ resumed file q R
-        → onward (reached file vs q) (more (suc m)) ≡ onward (reached file (vs ++ v ∷ []) q') (more m)
-    times_next vs v m q q' e =
-        onward_same (reached file vs q) (more (suc m)) _ (more_one m)
-        ∙ onward_reached file vs q _
-        ∙ past_reader file q q' v R (λ w. more m (vs ++ w ∷ [])) e
-        ∙ sym (onward_reached file (vs ++ v ∷ []) q' (more m))
+  -- after one more
+  pub times_next : (vs : List A) (v : A) (m : ℕ) (q q' : Progress) → reached v q' ≡ resumed q R
+      → onward (reached vs q) (more (suc m)) ≡ onward (reached (vs ++ v ∷ []) q') (more m)
+  times_next vs v m q q' e =
+      onward_same (reached vs q) (more (suc m)) _ (more_one m)
+      ∙ onward_reached vs q _
+      ∙ past_reader q q' v R (λ w. more m (vs ++ w ∷ [])) e
+      ∙ sym (onward_reached (vs ++ v ∷ []) q' (more m))
 
-    -- after the last
-    pub times_done : (vs : List A) (q : Progress) → onward (reached file vs q) (more 0) ≡ reached file vs q
-    unfolding onward times
-    times_done vs (Ok c) = rw (append-nil vs) refl
-    times_done vs (Err e) = onward_refused e (more 0)
+  -- after the last
+  pub times_done : (vs : List A) (q : Progress) → onward (reached vs q) (more 0) ≡ reached vs q
+  unfolding onward times
+  times_done vs (Ok c) = rw (append-nil vs) refl
+  times_done vs (Err e) = onward_refused e (more 0)

@@ -42,33 +42,33 @@ entries_counted (Err e) ok n h = tt
 
 -- ---- a judged line
 -- `test` says that the form's range test was made on the entries, `stand` how these stand in `out`
-module _ {file : List ℕ} {p : Progress} {key : List ℕ} {least : ℕ} {out₀ : List ℕ} {r : StoredLine} {out : List ℕ}
-    (stored : StoredPromise file p key least out₀ r out) (f : Form) (words : List ℕ → List ℕ)
-    (says : JudgedBy f file p r out)
+module _ {p : Progress} {key : List ℕ} {least : ℕ} {out₀ : List ℕ} {r : StoredLine} {out : List ℕ}
+    (stored : StoredPromise p key least out₀ r out) (f : Form) (words : List ℕ → List ℕ)
+    (says : JudgedBy f p r out)
     (ok : Bool) (test : HasNumbers r → ok ≡ f.fits (take (entries_of r) out))
     (stand : HasNumbers r → out ≡ words (take (entries_of r) out)) where
-  pub judged_read : ReadInto file (line f) words p (judged_as r ok) out
+  pub judged_read : ReadInto (line f) words p (judged_as r ok) out
   judged_read = record {
     value = take (entries_of r) out;
     says = rw (same_judged r ok (f.fits (take (entries_of r) out)) test) says;
     holds = λ g. stand (has_numbers r ok g);
-    within = stored.within ok;
+    follows = stored.follows ok;
   }
 
-  pub judged_entries : length out ≡ length out₀ → ReadEntries file (line f) words p (judged_entries_as r ok) out
+  pub judged_entries : length out ≡ length out₀ → ReadEntries (line f) words p (judged_entries_as r ok) out
   unfolding judged_read
   judged_entries long =
       let q = entries_judged r ok in
       let many = sym (length-take-le (entries_of r) out (omega (arith, stored.room))) in
       record {
-        into = record { value = take (entries_of r) out; says = rw q judged_read.says; holds = rw q judged_read.holds; within = rw q judged_read.within };
+        into = record { value = take (entries_of r) out; says = rw q judged_read.says; holds = rw q judged_read.holds; follows = rw q judged_read.follows };
         count = entries_counted r ok _ many;
       }
 
 -- a line that fills its words is judged on all of them, and what was stored is what is read
-pub full_read : {file : List ℕ} {p : Progress} {key : List ℕ} {least : ℕ} {out₀ : List ℕ} {r : StoredLine} {out : List ℕ}
-    → StoredPromise file p key least out₀ r out → length out ≤ least → (f : Form) → JudgedBy f file p r out
-    → (ok : Bool) → ok ≡ f.fits out → ReadInto file (line f) (λ ns. ns) p (judged_as r ok) out
+pub full_read : {p : Progress} {key : List ℕ} {least : ℕ} {out₀ : List ℕ} {r : StoredLine} {out : List ℕ}
+    → StoredPromise p key least out₀ r out → length out ≤ least → (f : Form) → JudgedBy f p r out
+    → (ok : Bool) → ok ≡ f.fits out → ReadInto (line f) (λ ns. ns) p (judged_as r ok) out
 full_read {r = r} {out = out} stored full f says ok test =
     let all : HasNumbers r → out ≡ take (entries_of r) out = λ has. sym (take_all (entries_of r) out (omega (arith, stored.enough has))) in
     judged_read stored f (λ ns. ns) says ok (λ has. test ∙ ap f.fits (all has)) all
@@ -87,17 +87,17 @@ zeros_behind_lem n k out h l e =
 
 -- ---- entries and their count
 -- a line has no more entries than its form allows
-module _ {file : List ℕ} (f : Form) {words : List ℕ → List ℕ} {p : Progress} {found : LineValue ℕ} {out : List ℕ}
-    (read : ReadEntries file (line f) words p (Ok found) out) where
+module _ (f : Form) {words : List ℕ → List ℕ} {p : Progress} {found : LineValue ℕ} {out : List ℕ}
+    (read : ReadEntries (line f) words p (Ok found) out) where
   pub few_counted : found.value ≤ f.most
-  few_counted = rw read.count (read_meets file read.into.value f p (Ok found.next) read.into.says tt).most
+  few_counted = rw read.count (read_meets read.into.value f p (Ok found.next) read.into.says tt).most
 
 -- what a `?` hands on is the refusal, and nothing is said of the words then
-pub refused_entries : {file : List ℕ} {reader : Reader (List ℕ)} {words words' : List ℕ → List ℕ} {p : Progress} {e : LineRefused} {out out' : List ℕ} (r : LineResult ℕ)
-    → IsErrAnd r (λ x. x ≡ e) → ReadEntries file reader words p (Err e) out → ReadEntries file reader words' p r out'
+pub refused_entries : {reader : Reader (List ℕ)} {words words' : List ℕ → List ℕ} {p : Progress} {e : LineRefused} {out out' : List ℕ} (r : LineResult ℕ)
+    → IsErrAnd r (λ x. x ≡ e) → ReadEntries reader words p (Err e) out → ReadEntries reader words' p r out'
 refused_entries (Ok f) h i = absurd h
-refused_entries {file = file} (Err x) h i = record {
-  into = record { value = i.into.value; says = ap outcome_of h ∙ i.into.says; holds = λ g. absurd g; within = rw h i.into.within };
+refused_entries (Err x) h i = record {
+  into = record { value = i.into.value; says = ap outcome_of h ∙ i.into.says; holds = λ g. absurd g; follows = rw h i.into.follows };
   count = tt;
 }
 
@@ -109,9 +109,9 @@ counted c (w ∷ out) lent h =
     let none : drop (suc (length out) - 1) out ≡ [] = drop_of_length-le out end in
     ap (λ (l : List ℕ). c ∷ l) (rw none (append-nil lent))
 
-pub counted_entries : {file : List ℕ} {reader : Reader (List ℕ)} (n : ℕ) {p : Progress} {found : LineValue ℕ} {lent : List ℕ} (out : List ℕ)
-    → 1 ≤ length out → ReadEntries file reader (padded n) p (Ok found) lent
-    → ReadEntries file reader (counted_words n) p (Ok found) (set (put_mid 1 (length out - 1) out lent) 0 found.value)
+pub counted_entries : {reader : Reader (List ℕ)} (n : ℕ) {p : Progress} {found : LineValue ℕ} {lent : List ℕ} (out : List ℕ)
+    → 1 ≤ length out → ReadEntries reader (padded n) p (Ok found) lent
+    → ReadEntries reader (counted_words n) p (Ok found) (set (put_mid 1 (length out - 1) out lent) 0 found.value)
 counted_entries n {found = found} {lent = lent} out h i =
     let words = i.into.value in
     record {
@@ -123,7 +123,7 @@ counted_entries n {found = found} {lent = lent} out h i =
                 counted found.value out lent h
                 ∙ ap (λ (m : ℕ). m ∷ lent) i.count
                 ∙ ap (λ (l : List ℕ). length words ∷ l) (i.into.holds g);
-            within = i.into.within;
+            follows = i.into.follows;
           };
       count = i.count;
     }

@@ -1,11 +1,13 @@
 -- What an answer of a reading function says, as what the meaning's reader finds.
 use Rattle.std.specs.Prelude.{◌≡◌, Bool, true, cond, List, ℕ, suc, ◌≤◌, ◌<◌, ltb, length, take, drop, Result, Ok, Err, IfOk}
+use Rattle.std.specs.Borrow.{Bor}
 use Prim.Native.String.{String}
+use Prim.Native.Nat.{zero-le}
 use Rattle.meaning.specs.Lists.{Every}
 use Rattle.meaning.specs.Text.{Form, bytes}
 use Rattle.meaning.specs.Reader.{Outcome, found, wrong_form, out_of_range, Reader, line}
 use Rattle.meaning.specs.Table.{largest_word}
-use Rattle.lines.specs.declared.Cursor.{Cursor}
+use Rattle.lines.specs.declared.cursor.Cursor.{Cursor}
 use Rattle.lines.specs.declared.LineRefused.{LineRefused}
 use Rattle.lines.specs.declared.LineRefused.TheVariants.{WrongForm, OutOfRange}
 use Rattle.lines.specs.declared.Stored.{Stored}
@@ -21,8 +23,11 @@ abbrev pub Progress : Type 0
 Progress = Result Cursor LineRefused
 
 -- the start of a file: nothing is read yet
-abbrev pub at_start : Progress
-at_start = Ok (record { at = 0; line = 0 })
+abbrev pub start_of : Bor (List ℕ) → Cursor
+start_of file = record { file = file; at = 0; line = 0; within = (zero-le, zero-le) }
+
+abbrev pub at_start : Bor (List ℕ) → Progress
+at_start file = Ok (start_of file)
 
 -- a refusal, as the meaning's reader tells it
 abbrev pub outcome_of : {A : Type 0} → LineRefused → Outcome A
@@ -35,29 +40,31 @@ lines_before (WrongForm n) = n
 lines_before (OutOfRange n) = n
 
 -- a value that was read up to there
-abbrev pub reached : {A : Type 0} → List ℕ → A → Progress → Outcome A
-reached file a (Ok c) = found a (suc c.line) (drop c.at file)
-reached file a (Err e) = outcome_of e
+abbrev pub reached : {A : Type 0} → A → Progress → Outcome A
+reached a (Ok c) = found a (suc c.line) (drop c.at c.file.now)
+reached a (Err e) = outcome_of e
 
 -- what a reader finds from there on; a refusal stays as it is
-abbrev pub resumed : {A : Type 0} → List ℕ → Progress → Reader A → Outcome A
-resumed file (Ok c) reader = reader (suc c.line) (drop c.at file)
-resumed file (Err e) reader = outcome_of e
+abbrev pub resumed : {A : Type 0} → Progress → Reader A → Outcome A
+resumed (Ok c) reader = reader (suc c.line) (drop c.at c.file.now)
+resumed (Err e) reader = outcome_of e
 
 -- no line was refused
 abbrev pub Going : Progress → Type 0
 Going (Ok c) = Unit {0}
 Going (Err e) = ⊥
 
--- no more lines than bytes, and none past the end
-abbrev pub WithinFile : List ℕ → Progress → Type 0
-WithinFile file (Ok c) = (c.line ≤ c.at) × (c.at ≤ length file)
-WithinFile file (Err e) = lines_before e ≤ length file
+-- from p on the same file was read up to r: its cursor is in that file, and no more lines than the file has bytes stand before a line that is
+-- refused there. A refusal that came in went out unchanged
+abbrev pub Follows : Progress → Progress → Type 0
+Follows (Ok c) (Ok d) = d.file.now ≡ c.file.now
+Follows (Ok c) (Err e) = lines_before e ≤ length c.file.now
+Follows (Err e) r = r ≡ Err e
 
--- at the end of a file of so many bytes: a further line is one too many, which is wrong form
-abbrev pub ended_as : ℕ → Progress → Progress
-ended_as size (Ok c) = cond (ltb c.at size) (Err (WrongForm c.line)) (Ok c)
-ended_as size (Err e) = Err e
+-- at the end of a file: a further line is one too many, which is wrong form
+abbrev pub ended_as : Progress → Progress
+ended_as (Ok c) = cond (ltb c.at (length c.file.now)) (Err (WrongForm c.line)) (Ok c)
+ended_as (Err e) = Err e
 
 -- ---- a value that was read, with the cursor behind it, or a refusal
 abbrev pub LineResult : Type 0 → Type 0
@@ -69,9 +76,9 @@ progress_of (Ok f) = Ok f.next
 progress_of (Err e) = Err e
 
 -- what the meaning's reader finds
-abbrev pub told : {A : Type 0} → List ℕ → LineResult A → Outcome A
-told file (Ok f) = reached file f.value (Ok f.next)
-told file (Err e) = outcome_of e
+abbrev pub told : {A : Type 0} → LineResult A → Outcome A
+told (Ok f) = reached f.value (Ok f.next)
+told (Err e) = outcome_of e
 
 -- ---- a line whose numbers are stored and not yet judged
 abbrev pub StoredLine : Type 0
@@ -102,27 +109,27 @@ abbrev pub RefusesLargest : Form → Type 0
 RefusesLargest f = (ns : List ℕ) → length ns ≤ f.most → f.fits ns ≡ true → Every (λ n. n < largest_word) ns
 
 -- judged by a form's range test on its words, the line after p is what the form's reader finds
-abbrev pub JudgedBy : Form → List ℕ → Progress → StoredLine → List ℕ → Type 0
-JudgedBy f file p r out = reached file (take (entries_of r) out) (judged_as r (f.fits (take (entries_of r) out))) ≡ resumed file p (line f)
+abbrev pub JudgedBy : Form → Progress → StoredLine → List ℕ → Type 0
+JudgedBy f p r out = reached (take (entries_of r) out) (judged_as r (f.fits (take (entries_of r) out))) ≡ resumed p (line f)
 
 -- what is promised of the line after p, whatever its form is. Its numbers stand in front, `least` of them at least, no more than there is
 -- room for, and the words behind them are as they were
-pub record StoredPromise (file : List ℕ) (p : Progress) (key : List ℕ) (least : ℕ) (out₀ : List ℕ) (r : StoredLine) (out : List ℕ) : Type 0 where
-  pub says : (f : Form) → bytes f.key ≡ key → f.least ≡ least → f.most ≡ length out₀ → RefusesLargest f → JudgedBy f file p r out
-  pub within : (ok : Bool) → WithinFile file (judged_as r ok)
+pub record StoredPromise (p : Progress) (key : List ℕ) (least : ℕ) (out₀ : List ℕ) (r : StoredLine) (out : List ℕ) : Type 0 where
+  pub says : (f : Form) → bytes f.key ≡ key → f.least ≡ least → f.most ≡ length out₀ → RefusesLargest f → JudgedBy f p r out
+  pub follows : (ok : Bool) → Follows p (judged_as r ok)
   pub room : entries_of r ≤ length out₀
   pub enough : HasNumbers r → least ≤ entries_of r
   pub behind : HasNumbers r → drop (entries_of r) out ≡ drop (entries_of r) out₀
 
 -- ---- what every filling function promises: from p on the reader was followed up to r; where nothing was refused, `out` has the words
 -- of what was read. After a refusal nothing is said of `out`, for the reading call clears all named words then
-pub record ReadInto {A : Type 0} (file : List ℕ) (reader : Reader A) (words : A → List ℕ) (p r : Progress) (out : List ℕ) : Type 0 where
+pub record ReadInto {A : Type 0} (reader : Reader A) (words : A → List ℕ) (p r : Progress) (out : List ℕ) : Type 0 where
   pub value : A
-  pub says : reached file value r ≡ resumed file p reader
+  pub says : reached value r ≡ resumed p reader
   pub holds : Going r → out ≡ words value
-  pub within : WithinFile file r
+  pub follows : Follows p r
 
 -- the same for the entries of a line, with their number
-pub record ReadEntries (file : List ℕ) (reader : Reader (List ℕ)) (words : List ℕ → List ℕ) (p : Progress) (r : LineResult ℕ) (out : List ℕ) : Type 0 where
-  pub into : ReadInto file reader words p (progress_of r) out
+pub record ReadEntries (reader : Reader (List ℕ)) (words : List ℕ → List ℕ) (p : Progress) (r : LineResult ℕ) (out : List ℕ) : Type 0 where
+  pub into : ReadInto reader words p (progress_of r) out
   pub count : IfOk r (λ f. f.value ≡ length into.value)
