@@ -97,7 +97,7 @@ pub fn read_position(table: Table<'_>, s: usize) -> Position
 // ---- the ground
 
 // How far a stack reaches along the trailer and across it, by length and width of its bottom item. No other function knows what an
-// orientation means. It stays the file's number (document 01), which the ranges keep 1 or 2: an enum would be made and matched here alone.
+// orientation means, so it stays the file's number (document 01), which the ranges keep 1 or 2: an enum would be made and matched here alone.
 fn extent_of(length: u32, width: u32, orientation: u32) -> Extent
     requires { (1 ≤ orientation) × (orientation ≤ 2) }
     ensures { result ≡ extent_of length width orientation }
