@@ -1,9 +1,9 @@
 -- What is read of rows that hold the stacks of a filled table.
-use mathlib.Core.Path.{◌≡◌, refl, sym, ◌∙◌}
+use mathlib.Core.Path.{◌≡◌, refl, sym, ap, ◌∙◌}
 use mathlib.Core.Logic.{◌⊎◌, inl, inr, ⊎_elim}
 use mathlib.Core.Bool.{true, false}
 use mathlib.Core.List.{List}
-use Prim.Native.Nat.{ℕ, ◌+◌, ◌-◌, ◌*◌, ◌≤◌, ◌<◌}
+use Prim.Native.Nat.{ℕ, ◌-◌, ◌≤◌, ◌<◌}
 use native.Mathlib.Nat.{eq-or-lt_of_le}
 use native.Mathlib.Omega.{arith}
 use lib.ListN.{length, get_or}
@@ -16,16 +16,18 @@ use Rattle.meaning.proofs.RuleKinds.{used_reads}
 use Rattle.table.specs.Filled.{TruckNumber}
 use Rattle.table.proofs.Access.{truck_of_lem}
 use Rattle.views.specs.Views.{footprint_of, rank_of}
-use Rattle.manifest.specs.Manifest.{manifest_order, manifest_at, row_of, row_most, HoldsRows, OneTruck, Parted}
-use Rattle.manifest.specs.Manifest.{row_word, footprint_at, rank_at, same_truck_at, RunBefore, RunBehind}
+use Rattle.manifest.specs.declared.row.Row.{Row}
+use Rattle.manifest.specs.Manifest.{manifest_order, manifest_at, row_of, HoldsRows, OneTruck, Parted}
+use Rattle.manifest.specs.Manifest.{row_at, RowWithin, footprint_at, rank_at, same_truck_at, RunBefore, RunBehind}
 use Rattle.manifest.proofs.Order.{order_within}
-use Rattle.manifest.proofs.Rows.{manifest_word}
+use Rattle.manifest.proofs.Rows.{kept_row}
+use Rattle.manifest.proofs.RowMost.{row_within}
 use Rattle.manifest.proofs.UsedTrucks.{filled_keyed, one_truck, parted_first, parted_end, parted_between}
 
 some_or_none : (n : ℕ) → (0 ≡ n) ⊎ (0 < n)
 some_or_none n = let h : 0 ≤ n = omega arith in eq-or-lt_of_le h
 
-module _ {m : Limits} {t rows : List ℕ} (h : HoldsRows m t rows) where
+module _ {m : Limits} {t : List ℕ} {rows : List Row} (h : HoldsRows m t rows) where
   abbrev i : Instance
   i = instance_in m t
 
@@ -34,41 +36,31 @@ module _ {m : Limits} {t rows : List ℕ} (h : HoldsRows m t rows) where
 
   module _ (k : ℕ) (inside : k < length p) where
     -- the row is there
-    pub row_room : 16 * k + 16 ≤ length rows
+    pub row_room : k < length rows
     row_room = omega (arith, h.room)
 
-    -- its words: at a written-out place the right side is the measure itself
-    pub word_is : (word : ℕ) → word < 16 → row_word rows k word ≡ get_or (row_of i p (get_or (manifest_order p) k 0)) word 0
-    word_is word f = (manifest_word h k word inside f).0
+    -- and it is the row of its stack: each of its fields is the measure itself
+    pub row_is : row_at rows k ≡ row_of i p (get_or (manifest_order p) k 0)
+    row_is = kept_row h k inside
 
-    pub word_most : (word : ℕ) → word < 16 → row_word rows k word ≤ row_most word
-    word_most word f = (manifest_word h k word inside f).1
+    pub row_most : RowWithin (row_at rows k)
+    row_most = rw row_is (row_within h.filled (get_or (manifest_order p) k 0) (order_within p k inside))
 
     -- the place in the file is that of a stack
-    pub index_within : row_word rows k 0 < length p
-    index_within = rw (word_is 0 (omega arith)) (order_within p k inside)
+    pub index_within : (row_at rows k).index < length p
+    index_within = rw row_is (order_within p k inside)
 
-    pub truck_is : (row_word rows k 2 ≡ truck (manifest_at p k)) × TruckNumber i (row_word rows k 2)
-    truck_is = truck_of_lem h.filled (get_or (manifest_order p) k 0) (order_within p k inside) (row_word rows k 2) (word_is 2 (omega arith))
+    pub truck_is : ((row_at rows k).truck ≡ truck (manifest_at p k)) × TruckNumber i (row_at rows k).truck
+    truck_is = truck_of_lem h.filled (get_or (manifest_order p) k 0) (order_within p k inside) (row_at rows k).truck (ap (λ (r : Row). r.truck) row_is)
 
     pub footprint_is : footprint_at rows k ≡ footprint_of i (manifest_at p k)
-    footprint_is = rw (word_is 4 (omega arith), word_is 5 (omega arith), word_is 6 (omega arith), word_is 7 (omega arith)) refl
+    footprint_is = ap (λ (r : Row). r.footprint) row_is
 
     pub rank_is : rank_at rows k ≡ rank_of i (truck (manifest_at p k)) (manifest_at p k).load
-    unfolding rank_of
-    rank_is =
-        rw (
-          word_is 10 (omega arith),
-          word_is 11 (omega arith),
-          word_is 12 (omega arith),
-          word_is 13 (omega arith),
-          word_is 14 (omega arith),
-          word_is 15 (omega arith),
-        )
-        refl
+    rank_is = ap (λ (r : Row). r.rank) row_is
 
   pub same_truck_is : (a b : ℕ) → a < length p → b < length p → same_truck_at rows a b ≡ same_used (used_by (manifest_at p a)) (used_by (manifest_at p b))
-  same_truck_is a b la lb = rw (word_is a la 2 (omega arith), word_is b lb 2 (omega arith), word_is a la 3 (omega arith), word_is b lb 3 (omega arith)) refl
+  same_truck_is a b la lb = rw (row_is a la, row_is b lb) refl
 
   same_used_lem : (a b : ℕ) → a < length p → b < length p → same_truck_at rows a b ≡ true → used_by (manifest_at p a) ≡ used_by (manifest_at p b)
   same_used_lem a b la lb e = (used_reads (used_by (manifest_at p a)) (used_by (manifest_at p b))).0 (sym (same_truck_is a b la lb) ∙ e)

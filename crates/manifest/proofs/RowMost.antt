@@ -1,14 +1,14 @@
--- How large the words of a row are.
+-- How large the fields of a row are.
 use mathlib.Core.List.{List, [], ◌∷◌, map}
-use Prim.Native.Nat.{ℕ, zero, suc, ◌≤◌, ◌<◌}
+use Prim.Native.Nat.{ℕ, ◌≤◌, ◌<◌}
 use native.Mathlib.Omega.{arith}
 use lib.Dec.{eqb, ltb}
-use lib.ListN.{length, get_or, length-map}
+use lib.ListN.{length, length-map}
 use Rattle.meaning.specs.declared.Limits.{Limits}
 use Rattle.meaning.specs.Lists.{Every, order_in}
 use Rattle.meaning.specs.Model.{Item, item, truck, truck_of, IG, IU, IK}
 use Rattle.meaning.specs.Files.{docks_line}
-use Rattle.meaning.specs.Measures.{sm, bottom, docks_of, supplier_dock_order, plant_dock_order, plant_docks_of}
+use Rattle.meaning.specs.Measures.{bottom, docks_of, supplier_dock_order, plant_dock_order, plant_docks_of}
 use Rattle.meaning.specs.Rules.{plant_dock_count}
 use Rattle.meaning.specs.Table.{instance_in, stacks_in}
 use Rattle.meaning.specs.Meets.{Meets}
@@ -16,22 +16,11 @@ use Rattle.meaning.proofs.Lists.{every_map, every_or, dedup_most}
 use Rattle.meaning.proofs.Orders.{order_most}
 use Rattle.table.specs.Filled.{Filled, stack_at}
 use Rattle.table.proofs.Access.{stack_in_lem, stack_weight, stack_field_most}
-use Rattle.views.specs.Views.{range_of, plant_dock_orders}
+use Rattle.views.specs.Views.{range_of, rank_of, plant_dock_orders}
 use Rattle.views.proofs.Bounds.{either_most, entry_most, stack_truck_in, footprint_bounds, orders_bound, supplier_order_bound}
-use Rattle.manifest.specs.Manifest.{row_of, row_most}
+use Rattle.manifest.specs.Manifest.{row_of, RowWithin}
 
 -- ---- lists
--- each number of a list is at most the number at its place in another
-data AtMost : List ℕ → List ℕ → Type 0 where
-  none : AtMost [] []
-  ◌then◌ : {a b : ℕ} {l m : List ℕ} → a ≤ b → AtMost l m → AtMost (a ∷ l) (b ∷ m)
-
-infixr 20 ◌then◌
-most_at : {l m : List ℕ} → AtMost l m → (k : ℕ) → get_or l k 0 ≤ get_or m k 0
-most_at none k = omega arith
-most_at (h then r) zero = h
-most_at (h then r) (suc k) = most_at r k
-
 -- the range of loading orders up to 8
 ranges_most : {A : Type 0} (f : A → ℕ) → ((a : A) → f a ≤ 8) → (l : List A) → ((range_of (map f l)).lowest ≤ 8) × ((range_of (map f l)).highest ≤ 8)
 unfolding range_of
@@ -64,30 +53,28 @@ module _ {m : Limits} {t : List ℕ} (h : Filled m t) (s : ℕ) (l : s < length 
       let a = stack_at (stacks_in m t) s in
       ranges_most (λ n. plant_dock_order (instance_in m t) a (item (instance_in m t) n)) (orders_bound h s l) a.load
 
-  pub row_most_lem : (k : ℕ) → get_or (row_of (instance_in m t) (stacks_in m t) s) k 0 ≤ row_most k
-  row_most_lem k =
+  pub row_within : RowWithin (row_of (instance_in m t) (stacks_in m t) s)
+  unfolding rank_of
+  row_within =
       let a = stack_at (stacks_in m t) s in
       let b = stack_in_lem h s l in
       let own = stack_field_most h s l in
       let ground = footprint_bounds h s l in
-      let index : s ≤ 16777216 = omega (arith, h.range.stack_count, h.bounded.words) in
-      let heavy : sm (instance_in m t) a ≤ 3200000 = omega (arith, stack_weight h a b, b.few_entries) in
-      most_at
-      (index
-      then own 0 (omega arith)
-      then own 1 (omega arith)
-      then own 2 (omega arith)
-      then ground.0
-      then ground.1
-      then ground.2
-      then ground.3
-      then heavy
-      then docks_most
-      then entry_most h s l 0 13 b.some_entry (omega arith)
-      then entry_most h s l 0 14 b.some_entry (omega arith)
-      then supplier_order_bound h s l
-      then dock_order_most (bottom (instance_in m t) a)
-      then range_most.0
-      then range_most.1
-      then none)
-      k
+      record {
+        index = omega (arith, h.range.stack_count, h.bounded.words);
+        number = own 0 (omega arith);
+        truck = own 1 (omega arith);
+        copy = own 2 (omega arith);
+        x = ground.0;
+        xe = ground.1;
+        y = ground.2;
+        ye = ground.3;
+        weight = omega (arith, stack_weight h a b, b.few_entries);
+        plant_docks = docks_most;
+        supplier = entry_most h s l 0 13 b.some_entry (omega arith);
+        dock = entry_most h s l 0 14 b.some_entry (omega arith);
+        supplier_order = supplier_order_bound h s l;
+        dock_order = dock_order_most (bottom (instance_in m t) a);
+        lowest = range_most.0;
+        highest = range_most.1;
+      }

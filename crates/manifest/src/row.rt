@@ -1,35 +1,40 @@
-// Where a word stands in the row of a stack.
+// What is kept of a stack, for what the rules ask of it again and again.
 
-pub const INDEX: usize = 0; // its place in the plan's file, from 0
+use views::{Footprint, Rank};
 
-pub const NUMBER: usize = 1;
+// The row of a stack in the manifest.
+#[derive(Clone, Copy)]
+pub struct Row {
+    pub index: u32, // its place in the plan's file, from 0
+    pub number: u32,
+    pub truck: u32,
+    pub copy: u32,
+    pub footprint: Footprint,
+    pub weight: u32,
+    pub plant_docks: u32, // how many it has
+    pub rank: Rank,
+}
 
-pub const TRUCK: usize = 2;
-
-pub const COPY: usize = 3;
-
-pub const X: usize = 4;
-
-pub const XE: usize = 5;
-
-pub const Y: usize = 6;
-
-pub const YE: usize = 7;
-
-pub const WEIGHT: usize = 8;
-
-pub const PLANT_DOCKS: usize = 9; // how many it has
-
-pub const SUPPLIER: usize = 10;
-
-pub const DOCK: usize = 11; // its supplier dock
-
-pub const SUPPLIER_ORDER: usize = 12;
-
-pub const DOCK_ORDER: usize = 13;
-
-pub const LOWEST: usize = 14; // the lowest loading order of its plant docks
-
-pub const HIGHEST: usize = 15;
-
-pub const ROW_WORDS: usize = 16;
+// A row that is not written yet.
+pub const NO_ROW: Row = Row {
+    index: 0,
+    number: 0,
+    truck: 0,
+    copy: 0,
+    footprint: Footprint {
+        x: 0,
+        xe: 0,
+        y: 0,
+        ye: 0,
+    },
+    weight: 0,
+    plant_docks: 0,
+    rank: Rank {
+        supplier: 0,
+        dock: 0,
+        supplier_order: 0,
+        dock_order: 0,
+        lowest: 0,
+        highest: 0,
+    },
+};
