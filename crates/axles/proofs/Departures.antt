@@ -20,6 +20,7 @@ use Rattle.search.specs.Lowest.{lowest_in, place_cmp, lower_by}
 use Rattle.search.proofs.Lowest.{LowestFrom, from_start, from_more, from_end}
 use Rattle.manifest.specs.Manifest.{manifest_at, block, HoldsRows, OneTruck}
 use Rattle.manifest.specs.declared.Block.{Block}
+use Rattle.manifest.specs.declared.row.Row.{Row}
 use Rattle.manifest.proofs.UsedTrucks.{block_length, block_used, used_one, all_on}
 use Rattle.axles.specs.declared.AxleData.{AxleData}
 use Rattle.axles.specs.Weights.{places_of, is_on, on_at, weight_of, axle_data, middle_holds, rear_holds}
@@ -28,17 +29,17 @@ use Rattle.axles.proofs.Rows.{Inside, from_inside, counts_if, block_places, weig
 
 -- a test of an axle under the stacks at some places
 abbrev pub Test : Type 0
-Test = List ℕ → AxleData → List ℕ → Bool
+Test = List Row → AxleData → List ℕ → Bool
 
 -- the place of a departure at which an axle is exceeded
-unfoldable pub exceeded_at : Test → List ℕ → Block → AxleData → UsedTruck → ℕ → List Place
+unfoldable pub exceeded_at : Test → List Row → Block → AxleData → UsedTruck → ℕ → List Place
 exceeded_at holds rows on a u departure = only_if (exceeds holds rows on a departure) (place u.truck u.copy departure)
 
 -- ---- from the last departure down: `found` is the lowest place of those after the current one
-pub record AxleFrom (holds : Test) (rows : List ℕ) (on : Block) (a : AxleData) (u : UsedTruck) (last departure : ℕ) (found : Option Place) : Type 0 where
+pub record AxleFrom (holds : Test) (rows : List Row) (on : Block) (a : AxleData) (u : UsedTruck) (last departure : ℕ) (found : Option Place) : Type 0 where
   pub lowest : LowestFrom (exceeded_at holds rows on a u) (up_from 1 last) departure found
 
-module _ {holds : Test} {rows : List ℕ} {on : Block} {a : AxleData} {u : UsedTruck} {last : ℕ} where
+module _ {holds : Test} {rows : List Row} {on : Block} {a : AxleData} {u : UsedTruck} {last : ℕ} where
   pub axle_start : AxleFrom holds rows on a u last last None
   axle_start = record { lowest = from_start (sym (length_up_from 1 last)) }
 
@@ -53,7 +54,7 @@ module _ {holds : Test} {rows : List ℕ} {on : Block} {a : AxleData} {u : UsedT
       record { lowest = from_more 0 h.lowest some there (rw e at ep) el }
 
 -- ---- the rules, as the rows of the used truck have them
-module _ {m : Limits} {t rows : List ℕ} (h : HoldsRows m t rows) {on : Block} (one : OneTruck (stacks_in m t) on.start on.end) where
+module _ {m : Limits} {t : List ℕ} {rows : List Row} (h : HoldsRows m t rows) {on : Block} (one : OneTruck (stacks_in m t) on.start on.end) where
   abbrev i : Instance
   i = instance_in m t
 

@@ -8,9 +8,9 @@ use lib.IntN.{◌+ℤ◌}
 use lib.ListN.{length, take, drop}
 use lib.Seq.{drop-cons}
 use Rattle.meaning.specs.declared.Limits.{Limits}
-use Rattle.meaning.specs.Lists.{any, filter, up_from, between, sum, sumℤ, Every}
+use Rattle.meaning.specs.Lists.{any, filter, up_from, order_from, between, sum, sumℤ, Every}
 use Rattle.meaning.specs.Model.{Instance, Truck, Stack, truck_numbered}
-use Rattle.meaning.specs.Measures.{used_by, supplier_order, sm, lever}
+use Rattle.meaning.specs.Measures.{UsedTruck, used_by, supplier_order, sm, lever}
 use Rattle.meaning.specs.Rules.{counts}
 use Rattle.meaning.specs.Table.{instance_in, stacks_in}
 use Rattle.meaning.proofs.Lists.{every_reads, in_up_from}
@@ -19,11 +19,13 @@ use Rattle.meaning.proofs.Permute.{sum_perm}
 use Rattle.table.specs.Filled.{Filled, TruckNumber, no_stack}
 use Rattle.table.proofs.Access.{stacks_in_lem, truck_in_lem, per_entry_most, stack_weight}
 use Rattle.table.proofs.Bounds.{truck_most_lem}
-use Rattle.manifest.specs.Manifest.{manifest_at, in_manifest, row_word, HoldsRows, OneTruck}
+use Rattle.views.specs.Views.{rank_of}
+use Rattle.manifest.specs.Manifest.{manifest_at, in_manifest, row_at, HoldsRows, OneTruck}
 use Rattle.manifest.specs.declared.Block.{Block}
+use Rattle.manifest.specs.declared.row.Row.{Row}
 use Rattle.manifest.proofs.Order.{manifest_length, manifest_at_lem, manifest_perm}
-use Rattle.manifest.proofs.Reading.{word_is, word_most, truck_is}
-use Rattle.axles.specs.Weights.{places_from, is_on, weight_of, lever_by, lever_at, levers_of, BoundedRows, axle_data, BoundedAxles}
+use Rattle.manifest.proofs.Reading.{row_is, row_most, truck_is}
+use Rattle.axles.specs.Weights.{places_from, is_on, weight_of, lever_by, levers_of, BoundedRows, axle_data, BoundedAxles}
 
 -- ---- lists of places
 map_if : {A B : Type 0} (f : A → B) (b : Bool) (a : A) (l : List A) → map f (cond b (a ∷ l) l) ≡ cond b (f a ∷ map f l) (map f l)
@@ -64,7 +66,7 @@ axles_bounded {m} {t} filled {n} known =
       twice = omega (arith, field 15 (omega arith), field 17 (omega arith));
     }
 
-module _ {m : Limits} {t rows : List ℕ} (h : HoldsRows m t rows) where
+module _ {m : Limits} {t : List ℕ} {rows : List Row} (h : HoldsRows m t rows) where
   -- the instance and the plan
   abbrev i : Instance
   i = instance_in m t
@@ -83,23 +85,26 @@ module _ {m : Limits} {t rows : List ℕ} (h : HoldsRows m t rows) where
   pub weights_are : (places : List ℕ) → Inside places → weight_of rows places ≡ sum (sm i) (map (manifest_at p) places)
   unfolding sum
   weights_are [] all = refl
-  weights_are (k ∷ places) all = ap₂ ◌+◌ (word_is h k all.0 8 (omega arith)) (weights_are places all.1)
+  weights_are (k ∷ places) all = ap₂ ◌+◌ (ap (λ (r : Row). r.weight) (row_is h k all.0)) (weights_are places all.1)
 
   pub levers_are : (truck : Truck) (places : List ℕ) → Inside places
       → levers_of rows (axle_data truck).twice places ≡ sumℤ (lever i truck) (map (manifest_at p) places)
   unfolding sumℤ lever_by lever
   levers_are truck [] all = refl
   levers_are truck (k ∷ places) all =
-      let word = word_is h k all.0 in
-      let one : lever_at rows (axle_data truck).twice k ≡ lever i truck (manifest_at p k) = rw (word 8 (omega arith), word 4 (omega arith), word 5 (omega arith)) refl in
-      ap₂ ◌+ℤ◌ one (levers_are truck places all.1)
+      ap₂ ◌+ℤ◌ (ap (λ (r : Row). lever_by r.weight r.footprint.x r.footprint.xe (axle_data truck).twice) (row_is h k all.0)) (levers_are truck places all.1)
+
+  -- ---- which are on
+  order_is : (k : ℕ) → k < length p → (row_at rows k).rank.supplier_order ≡ supplier_order i (manifest_at p k)
+  unfolding rank_of order_from
+  order_is k inside = ap (λ (r : Row). r.rank.supplier_order) (row_is h k inside)
 
   pub on_are : (departure : ℕ) (places : List ℕ) → Inside places
       → filter (λ (s : Stack). between 1 departure (supplier_order i s)) (map (manifest_at p) places) ≡ map (manifest_at p) (filter (is_on rows departure) places)
   unfolding filter
   on_are departure [] all = refl
   on_are departure (k ∷ places) all =
-      rw (word_is h k all.0 12 (omega arith), on_are departure places all.1, map_if (manifest_at p)) refl
+      rw (order_is k all.0, on_are departure places all.1, map_if (manifest_at p)) refl
 
   plan_weight : sum (sm i) p ≤ 3276800000
   plan_weight =
@@ -115,8 +120,8 @@ module _ {m : Limits} {t rows : List ℕ} (h : HoldsRows m t rows) where
           ordered = omega (arith, one.some);
           room = omega (arith, h.room, one.within);
           each = λ k inside.
-              let most = word_most h k (omega (arith, one.within)) in
-              record { weight = most 8 (omega arith); x = most 4 (omega arith); xe = most 5 (omega arith) };
+              let most = row_most h k (omega (arith, one.within)) in
+              record { weight = most.weight; x = most.x; xe = most.xe };
           weights = λ k upto.
               let n = on.end - k in
               let is = weights_are (places_from k on.end) (from_inside k one.within) ∙ ap (sum (sm i)) (sym (block_places p k n (omega (arith, one.within)))) in
@@ -124,8 +129,11 @@ module _ {m : Limits} {t rows : List ℕ} (h : HoldsRows m t rows) where
         }
 
     -- the first row has the truck and the copy of all
-    pub truck_known : {n : ℕ} → n ≡ row_word rows on.start 2 → (n ≡ (used_by (manifest_at p on.start)).truck) × TruckNumber i n
-    truck_known e = rw e (truck_is h on.start (omega (arith, one.some, one.within)))
+    pub used_known : (record { truck = (row_at rows on.start).truck; copy = (row_at rows on.start).copy }) ≡ used_by (manifest_at p on.start)
+    used_known = ap (λ (r : Row). used r.truck r.copy) (row_is h on.start (omega (arith, one.some, one.within)))
+      where
+        used : ℕ → ℕ → UsedTruck
+        used truck copy = record { truck = truck; copy = copy }
 
-    pub copy_known : {n : ℕ} → n ≡ row_word rows on.start 3 → n ≡ (used_by (manifest_at p on.start)).copy
-    copy_known e = e ∙ word_is h on.start (omega (arith, one.some, one.within)) 3 (omega arith)
+    pub truck_known : TruckNumber i (row_at rows on.start).truck
+    truck_known = (truck_is h on.start (omega (arith, one.some, one.within))).1

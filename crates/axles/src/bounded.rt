@@ -4,12 +4,12 @@ ghost use Rattle.axles.specs.Weights.{BoundedAxles, BoundedRows};
 ghost use Rattle.axles.specs.Props.{axles_prop, rows_prop};
 
 use crate::AxleData;
-use manifest::Block;
+use manifest::{Block, Row};
 
 // The stacks of a used truck: the rows of a manifest, and their block in them.
 #[derive(Clone, Copy)]
 pub struct Load<'a> {
-    pub rows: &'a [u32],
+    pub rows: &'a [Row],
     pub on: Block,
     pub ghost bounded: { BoundedRows rows.now on } by { rows_prop rows.now on },
 }

@@ -12,7 +12,7 @@ ghost use Rattle.axles.specs.Weights.{axle_data, moment_by, middle_holds, rear_h
 ghost use Rattle.table.specs.Held.{instance_of, stacks_of};
 
 use bounded::{Axles, Load};
-use manifest::{Block, Manifest, row, row_word};
+use manifest::{Block, Manifest};
 use meaning::Place;
 use search::{lower_of, place_if};
 use table::Table;
@@ -126,7 +126,7 @@ impl<'a> Load<'a> {
         requires { k < self.on.end }
         ensures { result ≡ is_on self.entry.rows.now departure k }
     {
-        let order = row_word(self.rows, k, row::SUPPLIER_ORDER);
+        let order = self.rows[k].rank.supplier_order;
         (1 <= order) & (order <= departure)
     }
 
@@ -148,7 +148,7 @@ impl<'a> Load<'a> {
     {
         let mut weight: u64 = 0;
         for k in (self.on.start..self.on.end).rev() {
-            weight = (row_word(self.rows, k, row::WEIGHT) as u64) + weight;
+            weight = (self.rows[k].weight as u64) + weight;
         }
         weight
     }
@@ -160,12 +160,11 @@ impl<'a> Load<'a> {
         ensures { (result.weight ≡ cond (is_on self.entry.rows.now departure k) (weight_at self.entry.rows.now k) 0)
             × (result.levers ≡ cond (is_on self.entry.rows.now departure k) (lever_at self.entry.rows.now twice k) (pos 0)) }
     {
-        let weight = row_word(self.rows, k, row::WEIGHT);
-        let x = row_word(self.rows, k, row::X);
-        let levers = lever_by(weight, x, row_word(self.rows, k, row::XE), twice);
+        let row = self.rows[k];
+        let levers = lever_by(row.weight, row.footprint.x, row.footprint.xe, twice);
         if self.is_on(departure, k) {
             return Sums {
-                weight: weight as u64,
+                weight: row.weight as u64,
                 levers,
             };
         }
@@ -229,9 +228,8 @@ pub fn truck_weights(manifest: Manifest<'_>, on: Block) -> WeightPlaces
     requires { OneTruck (stacks_of manifest.table) on.start on.end }
     ensures { LowestPlaces (instance_of manifest.entry.table) (block (stacks_of manifest.entry.table) on.start on.end) result }
 {
-    let start = on.start;
-    let truck = row_word(manifest.rows, start, row::TRUCK);
-    let copy = row_word(manifest.rows, start, row::COPY);
+    let truck = manifest.rows[on.start].truck;
+    let copy = manifest.rows[on.start].copy;
     let load = Load {
         rows: manifest.rows,
         on,

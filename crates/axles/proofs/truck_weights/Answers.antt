@@ -2,7 +2,7 @@
 use mathlib.Core.Path.{ap}
 use native.Mathlib.Omega.{arith}
 use lib.ListN.{length}
-use Rattle.axles.proofs.Rows.{rows_bounded, axles_bounded, truck_known, copy_known}
+use Rattle.axles.proofs.Rows.{rows_bounded, axles_bounded, truck_known, used_known}
 use Rattle.axles.proofs.Departures.{axle_start, axle_more, lowest_are}
 use Rattle.axles.proofs.truck_weights.Goals as goal
 
@@ -10,24 +10,16 @@ pub invariant_of-load : goal.invariant_of-load
 invariant_of-load c = record { bounded = rows_bounded c.args.manifest.holds c.requires }
 
 pub truck_field-requires : goal.truck_field-requires
-truck_field-requires c =
-    let known = truck_known c.args.manifest.holds c.requires c.row_word-truck.ensures in
-    (known.1, omega arith)
+truck_field-requires c = ((truck_known c.args.manifest.holds c.requires), omega arith)
 
 pub read_axle_data-requires : goal.read_axle_data-requires
-read_axle_data-requires c =
-    let known = truck_known c.args.manifest.holds c.requires c.row_word-truck.ensures in
-    known.1
+read_axle_data-requires c = (truck_known c.args.manifest.holds c.requires)
 
 pub suppliers-list-requires : goal.suppliers-list-requires
-suppliers-list-requires c =
-    let known = truck_known c.args.manifest.holds c.requires c.row_word-truck.ensures in
-    known.1
+suppliers-list-requires c = (truck_known c.args.manifest.holds c.requires)
 
 pub invariant_of-axles : goal.invariant_of-axles
-invariant_of-axles c =
-    let known = truck_known c.args.manifest.holds c.requires c.row_word-truck.ensures in
-    rw c.read_axle_data.ensures record { bounded = axles_bounded c.args.manifest.holds.filled known.1 }
+invariant_of-axles c = rw c.read_axle_data.ensures record { bounded = axles_bounded c.args.manifest.holds.filled (truck_known c.args.manifest.holds c.requires) }
 
 pub loop-before-init : goal.loop-before-init
 loop-before-init c = (axle_start, axle_start)
@@ -40,8 +32,6 @@ loop-before-preserved c = (
 
 pub returns : goal.returns
 returns c =
-    let known = truck_known c.args.manifest.holds c.requires c.row_word-truck.ensures in
-    let same_copy = copy_known c.args.manifest.holds c.requires c.row_word-copy.ensures in
-    lowest_are c.args.manifest.holds c.requires (λ z. record { truck = known.0 z; copy = same_copy z }) c.read_axle_data.ensures
+    lowest_are c.args.manifest.holds c.requires (used_known c.args.manifest.holds c.requires) c.read_axle_data.ensures
     (ap length c.suppliers-list.ensures.0) c.total_weight.ensures c.truck_field.ensures.0 c.place_if-2.ensures
     c.loop-before.invariant.0 c.loop-before.invariant.1 c.loop-before-test.false
