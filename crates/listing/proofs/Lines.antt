@@ -8,7 +8,9 @@ use lib.ListN.{length, get_or}
 use Rattle.meaning.specs.Text.{bytes}
 use Rattle.meaning.specs.Reorder.{ended}
 use Rattle.meaning.specs.Print.{printed_line}
-use Rattle.printing.specs.Wrote.{Wrote, line_bytes}
+use Rattle.printing.specs.declared.Writer.{Writer}
+use Rattle.printing.specs.Wrote.{line_bytes}
+use Rattle.printing.specs.Appended.{HasRoom, Appended}
 
 -- the numbers that a line is written from are those of the model
 module _ (key : String) {r ns : List ℕ} (e : r ≡ ns) where
@@ -16,14 +18,14 @@ module _ (key : String) {r ns : List ℕ} (e : r ≡ ns) where
   unfolding printed_line
   line_is = ap (line_bytes (bytes key)) e
 
-  pub line_room : (room : ℕ) → length (ended (printed_line key ns)) ≤ room → length (line_bytes (bytes key) r) ≤ room
-  line_room room fits = rw line_is fits
+  pub line_room : {w : Writer} → HasRoom (ended (printed_line key ns)) w → HasRoom (line_bytes (bytes key) r) w
+  line_room room = rw line_is room
 
   -- what the writer of a line asks
-  pub line_asks : (room : ℕ) → 1 ≤ length ns → length (ended (printed_line key ns)) ≤ room → (1 ≤ length r) × (length (line_bytes (bytes key) r) ≤ room)
-  line_asks room some fits = (rw e some, line_room room fits)
+  pub line_asks : {w : Writer} → 1 ≤ length ns → HasRoom (ended (printed_line key ns)) w → (1 ≤ length r) × HasRoom (line_bytes (bytes key) r) w
+  line_asks some room = (rw e some, line_room room)
 
-  pub line_wrote : {before now : List ℕ} {n : ℕ} → Wrote (line_bytes (bytes key) r) before now n → Wrote (ended (printed_line key ns)) before now n
+  pub line_wrote : {before now : Writer} → Appended (line_bytes (bytes key) r) before now → Appended (ended (printed_line key ns)) before now
   line_wrote w = rw (← line_is) w
 
 -- a line with one number

@@ -1,14 +1,15 @@
 -- A line as it is written: each number with what follows it, a comma or, behind the last, byte 10.
 use mathlib.Core.Path.{◌≡◌, refl, ap, ◌∙◌}
 use mathlib.Core.List.{List, [], ◌∷◌, ◌++◌, map, append_assoc}
-use Prim.Native.Nat.{ℕ, ◌+◌, ◌-◌, ◌≤◌, ◌<◌}
+use Prim.Native.Nat.{ℕ, ◌+◌, ◌≤◌, ◌<◌}
 use native.Mathlib.Omega.{arith}
-use borrow.Rule.Slice.PartMut.{put_mid}
-use lib.ListN.{length, get_or, take, drop, drop_of_length-le}
+use lib.ListN.{length, get_or, drop, drop_of_length-le}
 use Rattle.meaning.specs.Print.{digits, comma_joined}
 use Rattle.meaning.proofs.Lists.{drop_next}
-use Rattle.printing.specs.Wrote.{Wrote, numbers_bytes}
-use Rattle.printing.proofs.Progress.{Onward, onward_run}
+use Rattle.printing.specs.declared.Writer.{Writer}
+use Rattle.printing.specs.Wrote.{numbers_bytes, line_bytes}
+use Rattle.printing.specs.Appended.{Appended}
+use Rattle.printing.proofs.Progress.{Onward, onward_next}
 
 -- what follows a number: where other numbers are behind it, a comma
 unfoldable pub separator : List ℕ → ℕ
@@ -22,13 +23,16 @@ separated [] = []
 separated (n ∷ ns) = digits n ++ separator ns ∷ separated ns
 
 -- they are the numbers of a line
-pub separated_is : (ns : List ℕ) → 1 ≤ length ns → numbers_bytes ns ≡ separated ns
+separated_is : (ns : List ℕ) → 1 ≤ length ns → numbers_bytes ns ≡ separated ns
 unfolding comma_joined separated separator
 separated_is [] h = absurd (omega arith)
 separated_is (n ∷ []) h = refl
 separated_is (n ∷ m ∷ ns) h =
     append_assoc (digits n) (44 ∷ comma_joined (map digits (m ∷ ns))) (10 ∷ [])
     ∙ ap (λ (l : List ℕ). digits n ++ 44 ∷ l) (separated_is (m ∷ ns) (omega arith))
+
+pub line_is : (key ns : List ℕ) → 1 ≤ length ns → line_bytes key ns ≡ key ++ separated ns
+line_is key ns some = append_assoc key (comma_joined (map digits ns)) (10 ∷ []) ∙ ap (λ (l : List ℕ). key ++ l) (separated_is ns some)
 
 -- ---- the numbers from place i on
 module _ (ns : List ℕ) (i : ℕ) where
@@ -37,10 +41,9 @@ module _ (ns : List ℕ) (i : ℕ) where
   next_number h = rw (drop_next ns i 0 h)
 
   -- after the number what follows it is still to be written
-  pub number_behind : {whole before out part : List ℕ} {at n : ℕ} → i < length ns → Onward whole before out at (separated (drop i ns))
-      → Wrote (digits (get_or ns i 0)) (take (length out - at) (drop at out)) part n
-      → Onward whole before (put_mid at (length out - at) out part) (at + n) (separator (drop (i + 1) ns) ∷ separated (drop (i + 1) ns))
-  number_behind h o w = onward_run o w (next_number h)
+  pub number_behind : {whole : List ℕ} {start now next : Writer} → i < length ns → Onward whole start now (separated (drop i ns))
+      → Appended (digits (get_or ns i 0)) now next → Onward whole start next (separator (drop (i + 1) ns) ∷ separated (drop (i + 1) ns))
+  number_behind h o w = onward_next o w (next_number h)
 
   pub no_number : length ns ≤ i → separated (drop i ns) ≡ []
   unfolding separated

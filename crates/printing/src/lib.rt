@@ -1,9 +1,17 @@
-// Numbers and lines written into lent bytes. A writer writes from the first byte on and answers how many bytes it wrote.
+// Lines of numbers written into lent bytes, one behind the other.
 #![tactic(auto)]
 
-ghost use Rattle.std.specs.Prelude.{◌≡◌, ◌≤◌, length};
+ghost use Rattle.std.specs.Prelude.{◌≡◌, ◌≤◌, [], ◌∷◌, length};
 ghost use Rattle.meaning.specs.Print.{digits};
-ghost use Rattle.printing.specs.Wrote.{Wrote, numbers_bytes, line_bytes};
+ghost use Rattle.printing.specs.Wrote.{line_bytes};
+ghost use Rattle.printing.specs.Appended.{HasRoom, Appended};
+
+// Lent bytes, and how many of them are written, from the first on.
+#[derive(Drop)]
+pub struct Writer<'a> {
+    bytes: &'a mut [u8],
+    len: usize,
+}
 
 // How many digits a number has. Powers of ten are compared, so that each digit is worked out once, where it is written. (By the library's
 // logarithm it takes longer.)
@@ -35,45 +43,61 @@ fn put_digits(n: u32, out: &mut [u8])
     out[at] = b'0' + rest as u8;
 }
 
-// A number in decimal digits, without leading zero.
-fn write_number(n: u32, out: &mut [u8]) -> usize
-    requires { length (digits n) ≤ length out.old }
-    ensures { Wrote (digits n) out.old out.new result }
-{
-    let count = digit_count(n);
-    put_digits(n, &mut out[0..count]);
-    count
-}
-
-// The bytes of a key as they are.
-fn write_key(key: &[u8], out: &mut [u8]) -> usize
-    requires { length key.now ≤ length out.old }
-    ensures { Wrote key.now out.old out.new result }
-{
-    out[..key.len()].copy_from_slice(key);
-    key.len()
-}
-
-// The numbers of a line, with a comma between each two, and byte 10.
-fn write_numbers(numbers: &[u32], out: &mut [u8]) -> usize
-    requires { (1 ≤ length numbers.now) × (length (numbers_bytes numbers.now) ≤ length out.old) }
-    ensures { Wrote (numbers_bytes numbers.now) out.old out.new result }
-{
-    let mut at = 0;
-    for (i, number) in numbers.iter().enumerate() {
-        at += write_number(*number, &mut out[at..]);
-        let separator = if i + 1 == numbers.len() { b'\n' } else { b',' };
-        out[at] = separator;
-        at += 1;
+impl<'a> Writer<'a> {
+    // A writer that has written nothing.
+    pub fn new(bytes: &'a mut [u8]) -> Writer<'a>
+        ensures same_bytes { result.bytes.ghost_name ≡ bytes.entry.ghost_name }
+        ensures nothing_written { (result.bytes.now ≡ bytes.old) × (result.len ≡ 0) }
+    {
+        Writer { bytes, len: 0 }
     }
-    at
-}
 
-// A line: its key, its numbers, byte 10.
-pub fn write_line(key: &[u8], numbers: &[u32], out: &mut [u8]) -> usize
-    requires { (1 ≤ length numbers.now) × (length (line_bytes key.now numbers.now) ≤ length out.old) }
-    ensures { Wrote (line_bytes key.now numbers.now) out.old out.new result }
-{
-    let at = write_key(key, out);
-    at + write_numbers(numbers, &mut out[at..])
+    // How many bytes are written.
+    pub fn len(&self) -> usize
+        ensures { result ≡ self.now.len }
+    {
+        self.len
+    }
+
+    // One byte.
+    fn byte(&mut self, byte: u8)
+        requires { HasRoom (byte ∷ []) self.old }
+        ensures { Appended (byte ∷ []) self.old self.new }
+    {
+        self.bytes[self.len] = byte;
+        self.len += 1;
+    }
+
+    // Bytes as they are.
+    fn text(&mut self, text: &[u8])
+        requires { HasRoom text.now self.old }
+        ensures { Appended text.now self.old self.new }
+    {
+        let end = self.len + text.len();
+        self.bytes[self.len..end].copy_from_slice(text);
+        self.len = end;
+    }
+
+    // A number in decimal digits, without leading zero.
+    fn number(&mut self, n: u32)
+        requires { HasRoom (digits n) self.old }
+        ensures { Appended (digits n) self.old self.new }
+    {
+        let end = self.len + digit_count(n);
+        put_digits(n, &mut self.bytes[self.len..end]);
+        self.len = end;
+    }
+
+    // A line: its key, its numbers with a comma between each two, byte 10.
+    pub fn line(&mut self, key: &[u8], numbers: &[u32])
+        requires { (1 ≤ length numbers.now) × HasRoom (line_bytes key.now numbers.now) self.old }
+        ensures { Appended (line_bytes key.now numbers.now) self.old self.new }
+    {
+        self.text(key);
+        for (i, number) in numbers.iter().enumerate() {
+            self.number(*number);
+            let separator = if i + 1 == numbers.len() { b'\n' } else { b',' };
+            self.byte(separator);
+        }
+    }
 }

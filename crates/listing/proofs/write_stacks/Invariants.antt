@@ -5,4 +5,4 @@ use Rattle.listing.specs.Parts.{stack_bytes}
 use Rattle.listing.proofs.write_stacks.Given as goal
 
 abbrev pub invariant-loop-s : goal.invariant-loop-s
-invariant-loop-s l = Listing stack_bytes (stacks_in l.table.named.limits l.table.named.words.now) l.initial.out l.out l.at l.s
+invariant-loop-s l = Listing stack_bytes (stacks_in l.table.named.limits l.table.named.words.now) l.initial.out l.out l.s

@@ -5,4 +5,4 @@ use Rattle.printing.proofs.Progress.{Listing}
 use Rattle.listing.proofs.write_trucks.Given as goal
 
 abbrev pub invariant-loop-n : goal.invariant-loop-n
-invariant-loop-n l = Listing printed_truck (instance_in l.table.named.limits l.table.named.words.now).trucks l.initial.out l.out l.at l.n
+invariant-loop-n l = Listing printed_truck (instance_in l.table.named.limits l.table.named.words.now).trucks l.initial.out l.out l.n
