@@ -25,7 +25,8 @@ fn read_full<F: Read>(file: &mut F, buffer: &mut [u8]) -> usize
     done
 }
 
-// The file of a path. A path that is no text names no file.
+// The file of a path. A path that is no text names no file. (It comes as bytes, since `join` puts it together in a buffer: there is no heap for a
+// String.)
 fn open<R: Files>(files: &R, path: &[u8]) -> Option<R::File> {
     File::open(files, str::from_utf8(path).ok()?).ok()
 }
@@ -57,7 +58,8 @@ fn join<'a>(folder: &[u8], name: &[u8], buffer: &'a mut [u8]) -> Option<&'a [u8]
     Some(path)
 }
 
-// As read_file, the file of a folder. Its name begins with the slash. The system takes no path of 4,096 bytes or more.
+// As read_file, the file of a folder. Its name begins with the slash. The system takes no path of 4,096 bytes or more, so a buffer of that size
+// holds each that it takes; there is no heap.
 pub fn read_file_in<'a, R: Files>(
     files: &R,
     folder: &[u8],

@@ -105,6 +105,7 @@ fn run<W: Write>(out: &mut W, cases: &[u8], files: &[u8], table: &mut [u32]) -> 
     Ok(())
 }
 
+// There is no heap: the arrays have room for the data that is stored here.
 fn main(rt: HostRuntime) -> io::Result<()> {
     let mut cases = [0u8; 65536];
     let mut files = [0u8; 1572864];

@@ -84,7 +84,8 @@ fn place_of(list: &[u32], identifier: u32) -> Option<usize>
     list.iter().position(|listed| identifier == *listed)
 }
 
-// The place of an identifier in its line, from 1, which is its loading order; 0 where it is not listed.
+// The place of an identifier in its line, from 1, which is its loading order; 0 where it is not listed. (No Option: 0 is the loading order of what is
+// not listed, decision 13, and the rules compare it with others.)
 pub fn order_in(list: &[u32], identifier: u32) -> usize
     ensures { (result ≡ order_in list.now identifier) × (result ≤ length list.now) }
 {
@@ -105,7 +106,9 @@ pub fn is_listed(list: &[u32], identifier: u32) -> bool
     found
 }
 
-// ---- what a filled table holds
+// ---- what a filled table holds. Items, trucks and stacks, and the lists of a truck, have functions of their own, each a line over a run of words:
+// they promise different parts of the model, by numbers from 1 or by places from 0, and one function for all would take a trait that says the
+// part, its words, its bounds and how it is counted, which is longer than they are
 
 impl<'a> Table<'a> {
     // The coefficient of the transport cost.

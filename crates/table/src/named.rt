@@ -18,6 +18,8 @@ pub struct NamedWords<'a> {
     pub ghost room: { Room limits words.now } by { room_prop limits words.now },
 }
 
+// Each part and each row has a function of its own, a line over `words_from`: a trait of the parts would say start, width and count of each in an
+// impl, which is no shorter.
 impl<'a> NamedWords<'a> {
     // Where its parts begin.
     fn layout(self) -> Layout
