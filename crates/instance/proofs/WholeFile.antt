@@ -1,11 +1,11 @@
 -- The whole instance file: head, items and trucks one after another, each into its own part of the words.
-use mathlib.Core.Path.{◌≡◌, refl, sym, ap, ap₂, ◌∙◌}
+use mathlib.Core.Path.{◌≡◌, refl, sym, ap₂, ◌∙◌}
 use mathlib.Core.List.{List, [], ◌++◌}
 use Prim.Native.Nat.{ℕ, suc, ◌*◌}
 use lib.ListN.{length, drop}
 use Rattle.meaning.specs.declared.Limits.{Limits}
 use Rattle.meaning.specs.Model.{Instance, Item, Truck}
-use Rattle.meaning.specs.Reader.{Outcome, Reader, give, onward, ◌>>=◌, line, times, at_end}
+use Rattle.meaning.specs.Reader.{Reader, give, onward, ◌>>=◌, line, times, at_end}
 use Rattle.meaning.specs.Files.{number_line, ◌to◌, item_line, truck_lines, instance_lines}
 use Rattle.meaning.specs.Table.{truck_words}
 use Rattle.std.specs.Prelude.{Ok, Err}

@@ -9,9 +9,7 @@ ghost use Rattle.lines.specs.Progress.{at_start, ReadInto};
 ghost use Rattle.trucks.specs.Rows.{rows};
 ghost use Rattle.instance.specs.Words.{HeadPromise, instance_file, instance_words};
 
-use lines::{
-    Cursor, LineResult, LineValue, Progress, at_end, head_line, judged, stored_line,
-};
+use lines::{Cursor, LineResult, LineValue, Progress, at_end, head_line, judged, stored_line};
 use ranges::{LAST_DAY, item_in_range};
 use table::clear;
 use table::layout::{
@@ -49,11 +47,7 @@ pub struct HeadCounts {
 }
 
 // The five lines that the file begins with.
-fn read_head<'a>(
-    layout: Layout,
-    here: Cursor<'a>,
-    part: &mut [u32],
-) -> LineResult<'a, HeadCounts>
+fn read_head<'a>(layout: Layout, here: Cursor<'a>, part: &mut [u32]) -> LineResult<'a, HeadCounts>
     requires { length part.old ≡ 16 }
     ensures { HeadPromise layout.limits (Ok here.entry) result part.new }
 {
