@@ -67,13 +67,13 @@ kept_count (Ok l) false e = cc
 kept_count (Err x) ok e = cc
 
 -- so many of the words that were read, in the place of others
-pub load_within : {file load : List ℕ} {reader : Reader (List ℕ)} (n : ℕ) {p : Progress} {f : LineValue ℕ} (loads : List ℕ) (loaded : ℕ)
-    → ReadEntries file reader (padded n) p (Ok f) load
-    → ReadEntries file reader (λ l. spliced loaded l loads) p (Ok f) (spliced loaded (take f.value load) loads)
+pub load_within : {load : List ℕ} {reader : Reader (List ℕ)} (n : ℕ) {p : Progress} {f : LineValue ℕ} (loads : List ℕ) (loaded : ℕ)
+    → ReadEntries reader (padded n) p (Ok f) load
+    → ReadEntries reader (λ l. spliced loaded l loads) p (Ok f) (spliced loaded (take f.value load) loads)
 load_within {load = load} n {f = f} loads loaded i =
     let value = i.into.value in
     let stands : take f.value load ≡ value = ap (take f.value) (i.into.holds tt) ∙ take_at value _ f.value (sym i.count) in
     record {
-      into = record { value = value; says = i.into.says; holds = λ g. ap (λ (l : List ℕ). spliced loaded l loads) stands; within = i.into.within };
+      into = record { value = value; says = i.into.says; holds = λ g. ap (λ (l : List ℕ). spliced loaded l loads) stands; follows = i.into.follows };
       count = i.count;
     }

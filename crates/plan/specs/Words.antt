@@ -1,19 +1,16 @@
 -- The stacks and loads of a plan as they stand in the table, and the plan's lines for an instance of so many items and trucks.
-use Rattle.std.specs.Prelude.{◌≡◌, List, [], ◌∷◌, ◌++◌, ℕ, ◌+◌, ◌*◌, ◌≤◌, ◌<◌, length, take, drop, Ok, IfOk}
+use Rattle.std.specs.Borrow.{Bor}
+use Rattle.std.specs.Prelude.{◌≡◌, List, [], ◌∷◌, ◌++◌, ℕ, ◌+◌, ◌*◌, ◌≤◌, length, take, drop, Ok, IfOk}
 use Rattle.meaning.specs.declared.Limits.{Limits}
 use Rattle.meaning.specs.Lists.{padded}
 use Rattle.meaning.specs.Reader.{Reader, give, line, onward, ◌>>=◌, at_end}
 use Rattle.meaning.specs.Files.{stack_line, load_line, stack_lines, number_line, ◌to◌}
 use Rattle.meaning.specs.Model.{Stack}
-use Rattle.meaning.specs.Table.{largest_word, stack_words, load_entries}
+use Rattle.meaning.specs.Table.{stack_words, load_entries}
 use Rattle.ranges.specs.Ranges.{row_numbers}
 use Rattle.lines.specs.declared.LineValue.{LineValue}
 use Rattle.lines.specs.Progress.{at_start, LineResult, progress_of, ReadInto}
-use Rattle.plan.specs.declared.Counts.{Counts}
-
--- item and truck numbers are told from the largest word, which stands for all numbers that do not fit
-abbrev pub BelowLargest : Counts → Type 0
-BelowLargest counts = (counts.items < largest_word) × (counts.trucks < largest_word)
+use Rattle.plan.specs.declared.counts.Counts.{Counts}
 
 -- xs with ys in the place of the words from `at` on
 abbrev pub spliced : ℕ → List ℕ → List ℕ → List ℕ
@@ -32,8 +29,8 @@ abbrev pub with_stack : Limits → ℕ → ℕ → List ℕ → Stack → List �
 with_stack m k loaded part s = spliced (8 * m.stacks + loaded) s.load (spliced (8 * k) (s.fields ++ (loaded ∷ length s.load ∷ [])) part)
 
 -- what reading the k-th stack promises, where the loads before it hold so many entries: how many they hold then, for which there is room
-pub record StackPromise (m : Limits) (counts : Counts) (file : List ℕ) (k : ℕ) (before : LineValue ℕ) (r : LineResult ℕ) (part₀ part : List ℕ) : Type 0 where
-  pub into : ReadInto file (one_stack m.loads counts.items counts.trucks (row_numbers k part₀) before.value)
+pub record StackPromise (m : Limits) (counts : Counts) (k : ℕ) (before : LineValue ℕ) (r : LineResult ℕ) (part₀ part : List ℕ) : Type 0 where
+  pub into : ReadInto (one_stack m.loads counts.items counts.trucks (row_numbers k part₀) before.value)
       (with_stack m k before.value part₀) (Ok before.next) (progress_of r) part
   pub loaded : IfOk r (λ f. f.value ≡ before.value + length into.value.load)
   pub within : IfOk r (λ f. f.value ≤ m.loads)
@@ -52,6 +49,6 @@ plan_file m items trucks = do
   at_end p
 
 -- what reading the plan promises: the number of its stacks besides
-pub record PlanPromise (m : Limits) (counts : Counts) (file : List ℕ) (r : LineResult ℕ) (part : List ℕ) : Type 0 where
-  pub into : ReadInto file (plan_file m counts.items counts.trucks) (plan_words m) at_start (progress_of r) part
+pub record PlanPromise (m : Limits) (counts : Counts) (file : Bor (List ℕ)) (r : LineResult ℕ) (part : List ℕ) : Type 0 where
+  pub into : ReadInto (plan_file m counts.items counts.trucks) (plan_words m) (at_start file) (progress_of r) part
   pub stacks : IfOk r (λ f. f.value ≡ length into.value)

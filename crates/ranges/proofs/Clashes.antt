@@ -7,7 +7,7 @@ use mathlib.Core.List.{List, [], ◌∷◌, ◌++◌, map, flat_map}
 use Prim.Native.Nat.{ℕ, zero, suc, ◌+◌, ◌-◌, ◌*◌, ◌≤◌, ◌<◌}
 use native.Mathlib.Nat.{zero-add}
 use native.Mathlib.Omega.{arith}
-use lib.ListN.{length, get_or}
+use lib.ListN.{length, get_or, drop}
 use Rattle.meaning.specs.declared.Place.{Place}
 use Rattle.meaning.specs.Lists.{chunks, only_if, up_from, order_from, order_in, In}
 use Rattle.meaning.specs.Model.{Instance, item, IS}
@@ -20,6 +20,7 @@ use Rattle.meaning.proofs.Orders.{one_back, order-in, order_most}
 use Rattle.table.proofs.Parts.{length_chunks, chunk_at, length_made, made_at}
 use Rattle.meaning.proofs.Lowest.{before_reads, lowest_is}
 use Rattle.ranges.specs.Clashes.{item_at, items_in}
+use Rattle.ranges.proofs.Scan.{order_found, order_passed}
 
 -- ---- words and items
 module _ (ws : List ℕ) (count : ℕ) where
@@ -40,6 +41,14 @@ module _ (ws : List ℕ) (count : ℕ) where
   code_there k h =
       let back : k + 1 - 1 ≡ k = omega arith in
       rw back (rw (zero-add (16 * k)) at (made_at IS 16 count k 0 ws 0 h))
+
+  -- the first item of a code, from the next one on: that is this item, or it is behind it
+  module _ (code k : ℕ) (h : k < count) where
+    pub code_here : IS (item_at ws (k + 1)) ≡ code → order_from (k + 1) code (drop k codes) ≡ k + 1
+    code_here e = order_found code codes k (omega (arith, codes_counted)) (code_there k h ∙ e)
+
+    pub code_behind : (IS (item_at ws (k + 1)) ≡ code → ⊥) → order_from (k + 1) code (drop k codes) ≡ order_from (k + 1 + 1) code (drop (k + 1) codes)
+    code_behind d = order_passed code codes k (omega (arith, codes_counted)) (λ e. d (sym (code_there k h) ∙ e))
 
 -- ---- the lowest clash
 -- the clash of item n with the first of its code, if they clash

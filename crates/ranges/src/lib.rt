@@ -45,7 +45,9 @@ fn in_ranges(words: &[u32], ranges: &[Range]) -> bool
         .fold(true, |inside, (word, range)| inside & range.holds(*word))
 }
 
-// Whether all words lie in one range.
+// Whether all words lie in one range. (Not by `in_ranges`, which has a range for each word: one function for both would take an iterator of
+// ranges, which each caller would have to make first.)
+#[tactic(auto, using(crate::proofs::Scan::all_next), unfolding(meaning::specs::Lists::all))]
 pub fn all_between(words: &[u32], low: u32, high: u32) -> bool
     ensures { result ≡ all (between low high) words.now }
 {
@@ -58,6 +60,7 @@ pub fn all_between(words: &[u32], low: u32, high: u32) -> bool
 }
 
 // Whether no word is listed twice.
+#[tactic(auto, using(crate::proofs::Scan::distinct_on, crate::proofs::Scan::distinct_off, crate::proofs::Scan::distinct_end))]
 fn are_distinct(words: &[u32]) -> bool
     ensures { result ≡ distinct words.now }
 {
@@ -173,6 +176,7 @@ pub fn stack_in_range(fields: &[u32], trucks: u32) -> bool
 }
 
 // Whether one of the stacks in the first rows has this number, which is the first word of its row.
+#[tactic(auto, using(crate::proofs::Scan::repeated_before, crate::proofs::Scan::repeated_next))]
 pub fn is_repeated(part: &[u32], rows: usize, number: u32) -> bool
     requires { 8 * rows ≤ length part.now }
     ensures { result ≡ listed number (row_numbers rows part.now) }

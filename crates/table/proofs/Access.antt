@@ -77,17 +77,17 @@ module _ {m : Limits} {t : List ℕ} (h : Filled m t) where
       sum_most (λ n. IM (item i n)) 0 50000 s.load (λ j k. item_most_lem (item i (get_or s.load j 0)) (item_in _ (b.entries j k)) 4 (omega arith))
 
   -- ---- the words of an item
-  pub item_whole : (n : ℕ) → ItemNumber (instance_in m t) n → {words : List ℕ} → words ≡ part (item_place n) 16 t → words ≡ item (instance_in m t) n
-  item_whole n k e = e ∙ sym (item_row m t n k)
+  module _ {n : ℕ} (k : ItemNumber (instance_in m t) n) {words : List ℕ} (w : (words ≡ part (item_place n) 16 t) × (length words ≡ 16)) where
+    pub item_whole : (words ≡ item (instance_in m t) n) × (length words ≡ 16)
+    item_whole = (w.0 ∙ sym (item_row m t n k), w.1)
 
-  pub item_read : (n f : ℕ) → ItemNumber (instance_in m t) n → f < 16 → {words : List ℕ} → words ≡ part (item_place n) 16 t
-      → (get_or words f 0 ≡ get_or (item (instance_in m t) n) f 0) × (get_or words f 0 ≤ item_most f)
-  item_read n f k l e = let same = item_whole n k e in rw same (refl, item_most_lem (item (instance_in m t) n) (item_in n k) f l)
+    pub item_read : (f : ℕ) → f < 16 → (get_or words f 0 ≡ get_or (item (instance_in m t) n) f 0) × (get_or words f 0 ≤ item_most f)
+    item_read f l = rw (item_whole.0) (refl, item_most_lem (item (instance_in m t) n) (item_in n k) f l)
 
   -- ---- the words of a truck
-  module _ {n : ℕ} (k : TruckNumber (instance_in m t) n) {words : List ℕ} (e : words ≡ part (truck_place m n) 160 t) (long : length words ≡ 160) where
+  module _ {n : ℕ} (k : TruckNumber (instance_in m t) n) {words : List ℕ} (w : (words ≡ part (truck_place m n) 160 t) × (length words ≡ 160)) where
     truck_is : truck_numbered (instance_in m t) n ≡ truck_in words
-    truck_is = rw e (truck_row m t n k)
+    truck_is = rw (w.0) (truck_row m t n k)
 
     pub truck_read : (f : ℕ) → f < 20 → (get_or words f 0 ≡ get_or (truck_numbered (instance_in m t) n).fields f 0) × (get_or words f 0 ≤ truck_most f)
     unfolding truck_in
@@ -97,9 +97,10 @@ module _ {m : Limits} {t : List ℕ} (h : Filled m t) where
         in
         (same, rw same (truck_most_lem (truck_numbered (instance_in m t) n).fields (truck_in_lem n k).fields f l))
 
-    pub truck_whole : {r : List ℕ} → r ≡ part 0 20 words → r ≡ (truck_numbered (instance_in m t) n).fields
+    pub truck_whole : {r : List ℕ} → (r ≡ part 0 20 words) × (length r ≡ 20)
+        → (r ≡ (truck_numbered (instance_in m t) n).fields) × (length r ≡ 20)
     unfolding truck_in
-    truck_whole w = w ∙ sym (ap (λ (a : Truck). a.fields) truck_is)
+    truck_whole front = (front.0 ∙ sym (ap (λ (a : Truck). a.fields) truck_is), front.1)
 
     -- a list that stands behind its count
     module _ {list : Truck → List ℕ} {at most : ℕ} (l : BehindCount list at most) where
@@ -107,31 +108,34 @@ module _ {m : Limits} {t : List ℕ} (h : Filled m t) where
       list_is = ap list truck_is ∙ l.stands words
 
       list_count : get_or words at 0 ≤ most
-      list_count = part_short (at + 1) (get_or words at 0) most words (omega (arith, long, l.inside)) (rw list_is at (l.short _ (truck_in_lem n k)))
+      list_count = part_short (at + 1) (get_or words at 0) most words (omega (arith, w.1, l.inside)) (rw list_is at (l.short _ (truck_in_lem n k)))
 
       pub list_room : (at < length words) × (at + 1 + get_or words at 0 ≤ length words)
-      list_room = omega (arith, long, l.inside, list_count)
+      list_room = omega (arith, w.1, l.inside, list_count)
 
       pub list_read : {r : List ℕ} → r ≡ behind at words → (r ≡ list (truck_numbered (instance_in m t) n)) × (length r ≤ most)
-      list_read w = let same = w ∙ sym list_is in (same, rw same (l.short _ (truck_in_lem n k)))
+      list_read stands = let same = stands ∙ sym list_is in (same, rw same (l.short _ (truck_in_lem n k)))
 
     -- the docks of the supplier at place j: the words of its row, as far as its count says
     module _ (j : ℕ) (first : 1 ≤ j) (listed : j ≤ length (truck_numbered (instance_in m t) n).suppliers) where
-      pub docks_room : (j ≤ 8) × (get_or words (62 + (j - 1)) 0 ≤ 8)
+      few_suppliers : j ≤ 8
+      few_suppliers = omega (arith, listed, (truck_in_lem n k).suppliers.most)
+
+      pub docks_room : (length words ≡ 160) × (j - 1 < 8) × (get_or words (62 + (j - 1)) 0 ≤ 8)
       docks_room =
-          let few : j ≤ 8 = omega (arith, listed, (truck_in_lem n k).suppliers.most) in
+          let few = few_suppliers in
           let place : truck_place m n + (62 + (j - 1)) ≡ truck_place m n + 62 + (j - 1) = omega arith in
-          (few, rw (e, part_at (truck_place m n) 160 (62 + (j - 1)) t 0 (omega arith), place) (h.docks n (j - 1) k (omega arith)))
+          (w.1, omega arith, rw (w.0, part_at (truck_place m n) 160 (62 + (j - 1)) t 0 (omega arith), place) (h.docks n (j - 1) k (omega arith)))
 
       pub docks_read : {r : List ℕ} → r ≡ part (70 + 8 * (j - 1)) (get_or words (62 + (j - 1)) 0) words
           → (r ≡ docks_at_order (truck_numbered (instance_in m t) n) j) × (length r ≤ 8)
-      docks_read w =
-          let few = docks_room in
+      docks_read stands =
+          let few = docks_room.2 in
           let count = list_count suppliers_behind in
-          let size = ap length (list_is suppliers_behind) ∙ length_part 54 (get_or words 53 0) words (omega arith) in
-          let row = docks_row words (j - 1) long count (omega arith) ∙ take-take _ 8 (drop (70 + 8 * (j - 1)) words) few.1 in
-          let same = w ∙ sym (ap (λ (a : Truck). docks_at_order a j) truck_is ∙ row) in
-          (same, rw w (simp length-take (omega (arith, few.1))))
+          let size = ap length (list_is suppliers_behind) ∙ length_part 54 (get_or words 53 0) words (omega (arith, w.1)) in
+          let row = docks_row words (j - 1) w.1 count (omega arith) ∙ take-take _ 8 (drop (70 + 8 * (j - 1)) words) few in
+          let same = stands ∙ sym (ap (λ (a : Truck). docks_at_order a j) truck_is ∙ row) in
+          (same, rw stands (simp length-take (omega (arith, few))))
 
   -- ---- the words of a stack
   pub stack_field_most : (s : ℕ) → s < length (stacks_in m t) → (f : ℕ) → f < 6 → get_or (stack_at (stacks_in m t) s).fields f 0 ≤ stack_most f
@@ -140,9 +144,9 @@ module _ {m : Limits} {t : List ℕ} (h : Filled m t) where
   pub load_in : (s : ℕ) → s < length (stacks_in m t) → LoadOfItems (instance_in m t) (stack_at (stacks_in m t) s).load
   load_in s k = let b = stack_in_lem s k in record { some = b.some_entry; few = b.few_entries; entries = b.entries }
 
-  module _ {s : ℕ} (k : s < length (stacks_in m t)) {words : List ℕ} (e : words ≡ part (stack_place m s) 8 t) where
+  module _ {s : ℕ} (k : s < length (stacks_in m t)) {words : List ℕ} (w : (words ≡ part (stack_place m s) 8 t) × (length words ≡ 8)) where
     stack_is : stack_at (stacks_in m t) s ≡ stack_in (drop (loads_at m) t) words
-    stack_is = rw e (stack_row m t s k)
+    stack_is = rw (w.0) (stack_row m t s k)
 
     pub stack_read : (f : ℕ) → f < 6 → (get_or words f 0 ≡ get_or (stack_at (stacks_in m t) s).fields f 0) × (get_or words f 0 ≤ stack_most f)
     unfolding stack_in
@@ -152,13 +156,13 @@ module _ {m : Limits} {t : List ℕ} (h : Filled m t) where
         in
         (same, rw same (stack_field_most s k f l))
 
-    pub stack_whole : {r : List ℕ} → r ≡ part 0 6 words → r ≡ (stack_at (stacks_in m t) s).fields
+    pub stack_whole : {r : List ℕ} → (r ≡ part 0 6 words) × (length r ≡ 6) → (r ≡ (stack_at (stacks_in m t) s).fields) × (length r ≡ 6)
     unfolding stack_in
-    stack_whole w = w ∙ sym (ap (λ (a : Stack). a.fields) stack_is)
+    stack_whole front = (front.0 ∙ sym (ap (λ (a : Stack). a.fields) stack_is), front.1)
 
     -- its load stands within the words of the loads
     pub load_room : get_or words 6 0 + get_or words 7 0 ≤ m.loads
-    load_room = rw (e, part_at (stack_place m s) 8 6 t 0 (omega arith), part_at (stack_place m s) 8 7 t 0 (omega arith)) (h.loads s k)
+    load_room = rw (w.0, part_at (stack_place m s) 8 6 t 0 (omega arith), part_at (stack_place m s) 8 7 t 0 (omega arith)) (h.loads s k)
 
     pub load_read : {loads r : List ℕ} → loads ≡ part (loads_at m) m.loads t → r ≡ part (get_or words 6 0) (get_or words 7 0) loads
         → (r ≡ (stack_at (stacks_in m t) s).load) × LoadOfItems (instance_in m t) r

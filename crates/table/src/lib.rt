@@ -109,6 +109,7 @@ pub fn is_listed(list: &[u32], identifier: u32) -> bool
 
 impl<'a> Table<'a> {
     // The coefficient of the transport cost.
+    #[tactic(auto, unfolding(meaning::specs::Table::instance_in))]
     pub fn transport_coefficient(self) -> u32
         ensures { (result ≡ (instance_of self.entry).αT) × (result ≤ 1000) }
     {
@@ -116,6 +117,7 @@ impl<'a> Table<'a> {
     }
 
     // The coefficient of the inventory cost.
+    #[tactic(auto, unfolding(meaning::specs::Table::instance_in))]
     pub fn inventory_coefficient(self) -> u32
         ensures { (result ≡ (instance_of self.entry).αI) × (result ≤ 1000) }
     {
@@ -123,6 +125,7 @@ impl<'a> Table<'a> {
     }
 
     // The coefficient of an extra truck's cost, in thousandths.
+    #[tactic(auto, unfolding(meaning::specs::Table::instance_in))]
     pub fn extra_coefficient(self) -> u32
         ensures { (result ≡ (instance_of self.entry).αE) × (result ≤ 1000) }
     {
@@ -130,6 +133,7 @@ impl<'a> Table<'a> {
     }
 
     // How many items there are.
+    #[tactic(auto, using(crate::proofs::Words::items_counted))]
     pub fn item_count(self) -> u32
         ensures { (result ≡ length (instance_of self.entry).items) × (1 ≤ result) × (result ≤ self.entry.named.limits.items) }
     {
@@ -137,6 +141,7 @@ impl<'a> Table<'a> {
     }
 
     // How many trucks there are.
+    #[tactic(auto, using(crate::proofs::Words::trucks_counted))]
     pub fn truck_count(self) -> u32
         ensures { (result ≡ length (instance_of self.entry).trucks) × (1 ≤ result) × (result ≤ self.entry.named.limits.trucks) }
     {
@@ -144,6 +149,7 @@ impl<'a> Table<'a> {
     }
 
     // How many stacks there are.
+    #[tactic(auto, using(crate::proofs::Words::stacks_counted))]
     pub fn stack_count(self) -> usize
         ensures { (result ≡ length (stacks_of self.entry)) × (result ≤ self.entry.named.limits.stacks) }
     {

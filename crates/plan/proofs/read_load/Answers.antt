@@ -18,19 +18,19 @@ use Rattle.plan.proofs.read_load.Goals as goal
 use Rattle.plan.proofs.read_load.Goals.{then-in_range, else-in_range, Joined-in_range}
 
 judged_load : (c : Joined-in_range)
-    → ReadEntries c.args.file.now (line (load_line (length c.args.loads.now) c.args.items c.args.loaded)) (padded 64) (Ok c.args.here)
+    → ReadEntries (line (load_line (length c.args.loads.now) c.args.counts.items c.args.loaded)) (padded 64) (Ok c.args.here)
     (judged_entries_as c.stored_line-stored.result c.if-in_range.judged_entries) c.stored_line-stored.new.out
 judged_load c =
-    let f = load_line (length c.args.loads.now) c.args.items c.args.loaded in
+    let f = load_line (length c.args.loads.now) c.args.counts.items c.args.loaded in
     let words = c.stored_line-stored.new.out in
     let tested : c.if-in_range.judged_entries
     ≡ (c.all_between-in_range.result && leb (c.args.loaded + c.entries-count.result) (length c.args.loads.now)) =
     elim c.if-in_range.branch [ then-in_range w ↦ both_made _ w.if-in_range.true w.judged_entries-is | else-in_range w ↦ one_made _ w.if-in_range.false w.judged_entries-is ] in
     let fits =
-    load_fits words (length c.args.loads.now) c.args.items c.args.loaded c.entries-count.result (omega (arith, c.entries-count.ensures, c.stored_line-stored.ensures.room))
+    load_fits words (length c.args.loads.now) c.args.counts.items c.args.loaded c.entries-count.result (omega (arith, c.entries-count.ensures, c.stored_line-stored.ensures.room))
     c.all_between-in_range.ensures tested
     in
-    judged_entries c.stored_line-stored.ensures f (padded 64) (c.stored_line-stored.ensures.says f refl refl refl (load_refuses_largest _ c.args.items c.args.loaded (omega arith)))
+    judged_entries c.stored_line-stored.ensures f (padded 64) (c.stored_line-stored.ensures.says f refl refl refl (load_refuses_largest _ c.args.counts.items c.args.loaded (omega arith)))
     c.if-in_range.judged_entries (λ has. fits ∙ ap (λ (k : ℕ). f.fits (take k words)) c.entries-count.ensures) (λ has. zeros_behind_lem 64 _ words c.stored_line-stored.ensures.room c.stored_line-stored.auto.out (c.stored_line-stored.ensures.behind has)) c.stored_line-stored.auto.out
 
 pub returns-in_err-kept-clause-read : goal.returns-in_err-kept-clause-read

@@ -6,16 +6,20 @@ use Rattle.plan.proofs.read_plan.Goals as goal
 
 pub returns-in_err-stacks : goal.returns-in_err-stacks
 returns-in_err-stacks c =
-    plan_refused _ _ _ c.from_residual.ensures.1
-    (announced_refused _ _ (number_refused c.in_err-stacks.was (c.head_line.ensures.says "stacks=" refl) c.head_line.ensures.within.0))
+    let says = rw c.start.ensures at (c.head_line.ensures.says "stacks=" refl) in
+    let follows = rw c.start.ensures at c.head_line.ensures.within.0 in
+    plan_refused c.args.layout.limits c.args.counts _ c.from_residual.ensures.1
+    (announced_refused c.args.layout.limits c.args.counts (number_refused c.in_err-stacks.was says follows))
 
 pub returns-in_err-next : goal.returns-in_err-next
 returns-in_err-next c =
-    plan_refused _ _ _ c.from_residual-in_err-next.ensures.1
-    (plan_ended _ _ (number_read c.in_ok-stacks.was (c.head_line.ensures.says "stacks=" refl) c.head_line.ensures.within.0) c.read_stacks-read.ensures
-    (sym c.at_end.ensures ∙ c.in_err-next.was))
+    let says = rw c.start.ensures at (c.head_line.ensures.says "stacks=" refl) in
+    let follows = rw c.start.ensures at c.head_line.ensures.within.0 in
+    plan_refused c.args.layout.limits c.args.counts _ c.from_residual-in_err-next.ensures.1
+    (plan_ended c.args.layout.limits c.args.counts (number_read c.in_ok-stacks.was says follows) c.read_stacks-read.ensures (sym c.at_end.ensures ∙ c.in_err-next.was))
 
 pub returns : goal.returns
 returns c =
-    plan_read _ _ (number_read c.in_ok-stacks.was (c.head_line.ensures.says "stacks=" refl) c.head_line.ensures.within.0) c.read_stacks-read.ensures
-    (sym c.at_end.ensures ∙ c.in_ok-next.was)
+    let says = rw c.start.ensures at (c.head_line.ensures.says "stacks=" refl) in
+    let follows = rw c.start.ensures at c.head_line.ensures.within.0 in
+    plan_read c.args.layout.limits c.args.counts (number_read c.in_ok-stacks.was says follows) c.read_stacks-read.ensures (sym c.at_end.ensures ∙ c.in_ok-next.was)

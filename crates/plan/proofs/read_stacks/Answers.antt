@@ -9,8 +9,8 @@ use Rattle.plan.proofs.read_stacks.Goals as goal
 
 pub loop-k-init : goal.loop-k-init
 loop-k-init c =
-    so_far_first c.args.limits c.args.counts c.args.count c.args.file.now c.args.here c.clear.new.words
-    (c.clear.ensures ∙ ap (λ (n : ℕ). replicate n 0) c.requires.4) c.requires.1
+    so_far_first c.args.layout.limits c.args.counts c.args.count c.args.here c.clear.new.words
+    (c.clear.ensures ∙ ap (λ (n : ℕ). replicate n 0) c.requires.1)
 
 pub returns-in_err-loaded : goal.returns-in_err-loaded
 returns-in_err-loaded c = handed_on c.from_residual.ensures.1 (so_far_refused c.loop-k.invariant (omega arith) (rw c.in_err-loaded.was at c.read_stack.ensures))

@@ -4,4 +4,4 @@ use Rattle.plan.proofs.StackLines.{SoFar}
 use Rattle.plan.proofs.read_stacks.Given as goal
 
 abbrev pub invariant-loop-k : goal.invariant-loop-k
-invariant-loop-k l = SoFar l.limits l.counts l.count l.file (Ok l.initial.loaded.next) l.part l.k l.loaded
+invariant-loop-k l = SoFar l.layout.limits l.counts l.count (Ok l.initial.loaded.next) l.part l.k l.loaded

@@ -3,4 +3,4 @@ use Rattle.table.proofs.Access.{item_read}
 use Rattle.table.proofs.filled.Table.item_field.Goals as goal
 
 pub returns : goal.returns
-returns c = item_read c.args.self.filled c.args.n c.args.field c.requires.0 c.requires.1 c.item-words.ensures.0
+returns c = item_read c.args.self.filled c.requires.0 c.item-words.ensures c.args.field c.requires.1

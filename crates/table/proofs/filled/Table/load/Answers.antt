@@ -4,8 +4,8 @@ use Rattle.table.proofs.Access.{load_room, load_read}
 use Rattle.table.proofs.filled.Table.load.Goals as goal
 
 pub words_from-requires : goal.words_from-requires
-words_from-requires c = omega (arith, load_room c.args.self.filled c.requires c.stack-words.ensures.0)
+words_from-requires c = omega (arith, load_room c.args.self.filled c.requires c.stack-words.ensures)
 
 pub returns : goal.returns
 returns c =
-    load_read c.args.self.filled c.requires c.stack-words.ensures.0 c.loads.ensures.0 c.words_from.ensures.0
+    load_read c.args.self.filled c.requires c.stack-words.ensures c.loads.ensures.0 c.words_from.ensures.0

@@ -3,11 +3,7 @@ use Rattle.table.proofs.Access.{plant_docks_behind, list_room, list_read}
 use Rattle.table.proofs.filled.Table.plant_docks.Goals as goal
 
 pub counted-requires : goal.counted-requires
-counted-requires c =
-    let words = c.truck.ensures in
-    list_room c.args.self.filled c.requires words.0 words.1 plant_docks_behind
+counted-requires c = list_room c.args.self.filled c.requires c.truck.ensures plant_docks_behind
 
 pub returns : goal.returns
-returns c =
-    let words = c.truck.ensures in
-    list_read c.args.self.filled c.requires words.0 words.1 plant_docks_behind c.counted.ensures
+returns c = list_read c.args.self.filled c.requires c.truck.ensures plant_docks_behind c.counted.ensures

@@ -3,4 +3,4 @@ use Rattle.table.proofs.Access.{stack_read}
 use Rattle.table.proofs.filled.Table.stack_field.Goals as goal
 
 pub returns : goal.returns
-returns c = stack_read c.args.self.filled c.requires.0 c.stack-words.ensures.0 c.args.field c.requires.1
+returns c = stack_read c.args.self.filled c.requires.0 c.stack-words.ensures c.args.field c.requires.1

@@ -3,6 +3,4 @@ use Rattle.table.proofs.Access.{truck_read}
 use Rattle.table.proofs.filled.Table.truck_field.Goals as goal
 
 pub returns : goal.returns
-returns c =
-    let words = c.truck-words.ensures in
-    truck_read c.args.self.filled c.requires.0 words.0 words.1 c.args.field c.requires.1
+returns c = truck_read c.args.self.filled c.requires.0 c.truck-words.ensures c.args.field c.requires.1

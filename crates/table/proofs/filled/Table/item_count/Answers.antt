@@ -1,7 +1,0 @@
--- `Table::item_count`: the word is the count that the decoding goes by.
-use native.Mathlib.Omega.{arith}
-use Rattle.table.proofs.Words.{items_counted}
-use Rattle.table.proofs.filled.Table.item_count.Goals as goal
-
-pub returns : goal.returns
-returns c = let a = c.args in omega (arith, items_counted a.self.named.limits a.self.named.words.now)
