@@ -1,4 +1,4 @@
-// A truck's lines, read into the truck's own 160 words.
+// Rows of one width, each read into words of its own, and the trucks, which are such rows of 160 words.
 #![tactic(auto)]
 
 ghost use Rattle.std.specs.Prelude.{◌≡◌, List, ℕ, ◌*◌, ◌≤◌, length, Ok};
@@ -15,8 +15,10 @@ use table::layout::{
     BEHIND_DOCKS, DOCK_COUNTS, PLANT_DOCKS, PRODUCTS, SUPPLIER_DOCKS, SUPPLIERS, TRUCK_WORDS,
 };
 
-// So many rows of one width, one after another, each into the part of the words that it is lent. The words behind them are zero. What the
-// reader of one row does is told by a reader whose values are the words of a row.
+// ---- rows
+
+// So many rows of one width, one after another, each read into the part of the words that it is lent. The words behind them are zero. The
+// clause takes any reader that finds the words of a row as `read_row` does.
 pub fn read_rows<'a, F: Fn(Cursor<'a>, &mut [u32]) -> Progress<'a>>(
     here: Cursor<'a>,
     width: usize,
@@ -37,6 +39,8 @@ pub fn read_rows<'a, F: Fn(Cursor<'a>, &mut [u32]) -> Progress<'a>>(
     }
     Ok(next)
 }
+
+// ---- trucks
 
 // One `docks=` line for each supplier. The eight counts stand first, then the docks of each supplier in a row of their own. (Not by
 // `read_rows`: each row's count is stored too, which stands among other words.)
