@@ -8,7 +8,7 @@ use Rattle.meaning.specs.Reader.{Reader, give, onward, ◌>>=◌, at_end}
 use Rattle.meaning.specs.Files.{number_line, ◌to◌, instance_lines}
 use Rattle.meaning.specs.Model.{Instance, Item}
 use Rattle.meaning.specs.Table.{truck_words}
-use Rattle.lines.specs.Progress.{at_start, LineResult, progress_of, ReadInto}
+use Rattle.lines.specs.Progress.{Progress, LineResult, progress_of, ReadInto}
 use Rattle.trucks.specs.Rows.{rows}
 use Rattle.instance.specs.declared.HeadCounts.{HeadCounts}
 
@@ -36,8 +36,8 @@ abbrev pub head_row : HeadNumbers → List ℕ
 head_row h = padded items_at (h.αT ∷ h.αI ∷ h.αE ∷ h.items ∷ h.trucks ∷ [])
 
 -- what reading the head promises: the counts besides, which are within the limits
-pub record HeadPromise (m : Limits) (file : List ℕ) (r : LineResult HeadCounts) (part : List ℕ) : Type 0 where
-  pub into : ReadInto file (head_lines m) head_row at_start (progress_of r) part
+pub record HeadPromise (m : Limits) (p : Progress) (r : LineResult HeadCounts) (part : List ℕ) : Type 0 where
+  pub into : ReadInto (head_lines m) head_row p (progress_of r) part
   pub items : IfOk r (λ f. f.value.items ≡ into.value.items)
   pub trucks : IfOk r (λ f. f.value.trucks ≡ into.value.trucks)
   pub items_within : IfOk r (λ f. f.value.items ≤ m.items)

@@ -1,14 +1,14 @@
 -- The end of the file, as the code finds it and as the meaning's reader asks for it.
-use mathlib.Core.Path.{◌≡◌, refl, sym}
+use mathlib.Core.Path.{◌≡◌, refl, sym, ap, ◌∙◌}
 use mathlib.Core.List.{List, [], ◌∷◌}
 use Prim.Native.Nat.{ℕ, suc, ◌<◌}
 use native.Mathlib.Omega.{arith}
 use lib.ListN.{length, drop, length-drop, drop_of_length-le}
-use Rattle.meaning.specs.Reader.{found, wrong_form, onward, at_end}
+use Rattle.meaning.specs.Reader.{Outcome, found, wrong_form, Reader, onward, ◌>>=◌, at_end}
 use Rattle.meaning.proofs.Tests.{by_less}
 use Rattle.std.specs.Prelude.{Ok, Err}
-use Rattle.lines.specs.Progress.{Progress, reached, Going, Follows, ended_as}
-use Rattle.lines.proofs.Follow.{onward_refused}
+use Rattle.lines.specs.Progress.{Progress, reached, Going, Follows, ended_as, ReadInto}
+use Rattle.lines.proofs.Follow.{onward_refused, resumed_onward, follows_on}
 
 module _ {A : Type 0} (a : A) where
   -- bytes that are left are a line too many
@@ -38,3 +38,13 @@ ended_follows (Err e) = refl
 pub ended_going : (p : Progress) → Going (ended_as p) → Going p
 ended_going (Ok c) g = tt
 ended_going (Err e) g = g
+
+-- what is read is the whole file, where that ends there
+pub read_to_end : {A : Type 0} {R : Reader A} {words : A → List ℕ} {p r : Progress} {out : List ℕ}
+    → ReadInto R words p r out → ReadInto (R >>= at_end) words p (ended_as r) out
+read_to_end {A} {R = R} {p = p} {r = r} i = record {
+  value = i.value;
+  says = ended_reached i.value r ∙ ap (λ (x : Outcome A). onward x at_end) i.says ∙ resumed_onward p R at_end;
+  holds = λ g. i.holds (ended_going r g);
+  follows = follows_on p r _ i.follows (ended_follows r);
+}

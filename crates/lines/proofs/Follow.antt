@@ -86,6 +86,11 @@ module _ {A : Type 0} where
   given_reached a (Ok c) = refl
   given_reached a (Err e) = refl
 
+-- a block whose first reader is resumed
+pub resumed_onward : {A B : Type 0} (p : Progress) (reader : Reader A) (next : A → Reader B) → onward (resumed p reader) next ≡ resumed p (reader >>= next)
+resumed_onward (Ok c) reader next = refl
+resumed_onward (Err e) reader next = onward_refused e next
+
 -- a refusal stays: where none came out, none came in
 going_before : {B : Type 0} (b : B) (p q : Progress) (R : Reader B) → reached b q ≡ resumed p R → Going q → Going p
 going_before b (Ok c) q R e g = tt

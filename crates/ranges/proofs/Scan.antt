@@ -7,12 +7,12 @@ use native.Mathlib.Numerals.{add-one}
 use native.Mathlib.Omega.{arith}
 use borrow.Author.Tests.{eq-eqb, ne_eqb}
 use lib.Dec.{eqb}
-use lib.ListN.{length, get_or, take, drop, length-drop, drop_of_length-le}
-use lib.Seq.{take_all, drop-cons}
+use lib.ListN.{length, get_or, take, drop, drop_of_length-le}
+use lib.Seq.{drop-cons}
 use Rattle.meaning.specs.Lists.{all, any, between, listed, distinct, order_from}
 use Rattle.meaning.specs.Files.{all_within}
 use Rattle.meaning.proofs.Lists.{drop_next}
-use Rattle.std.proofs.lemmas.List.{take_more}
+use Rattle.std.proofs.lemmas.List.{take_more, take_rest}
 use Rattle.std.specs.Prelude.{fold}
 use Rattle.std.specs.List.{zip}
 use Rattle.ranges.specs.declared.Range.{Range as InCode}
@@ -48,16 +48,13 @@ within_zip ws rs h = within_from ws rs true h
 
 -- ---- the words from an index on: whether they are distinct is decided by the word at the index, and the part behind it
 module _ (ws : List ℕ) (i : ℕ) (h : i < length ws) where
-  all_behind : take (length ws - (i + 1)) (drop (i + 1) ws) ≡ drop (i + 1) ws
-  all_behind = take_all (length ws - (i + 1)) (drop (i + 1) ws) (omega (arith, length-drop (i + 1) ws))
-
   pub distinct_on : listed (get_or ws i 0) (take (length ws - (i + 1)) (drop (i + 1) ws)) ≡ false → distinct (drop i ws) ≡ distinct (drop (i + 1) ws)
   unfolding distinct
-  distinct_on e = rw (drop_next ws i 0 h) (simp (rw all_behind at e))
+  distinct_on e = rw (drop_next ws i 0 h) (simp (rw (take_rest ws (i + 1)) at e))
 
   pub distinct_off : listed (get_or ws i 0) (take (length ws - (i + 1)) (drop (i + 1) ws)) ≡ true → distinct (drop i ws) ≡ false
   unfolding distinct
-  distinct_off e = rw (drop_next ws i 0 h) (simp (rw all_behind at e))
+  distinct_off e = rw (drop_next ws i 0 h) (simp (rw (take_rest ws (i + 1)) at e))
 
 -- ---- behind the last word
 module _ (ws : List ℕ) (i : ℕ) (h : length ws ≤ i) where

@@ -8,8 +8,8 @@ use native.Mathlib.Omega.{arith}
 use lib.ListN.{length, take, drop}
 use Rattle.meaning.specs.Lists.{all, between, distinct}
 use Rattle.meaning.proofs.Tests.{fails, and_reads, between_reads}
+use Rattle.std.proofs.lemmas.List.{take_rest}
 use Rattle.stored.specs.Parts.{zeros, entries_stored}
-use Rattle.stored.proofs.Scan.{rest_lent}
 
 module _ (n : ℕ) (ws : List ℕ) where
   -- none, or more than there are words
@@ -19,14 +19,14 @@ module _ (n : ℕ) (ws : List ℕ) where
       let out = fails (between 1 (length ws) n) (λ e. f ((between_reads 1 (length ws) n).0 e)) in
       sym (ap (λ (b : Bool). b && (all (between 1 65535) (take n ws) && distinct (take n ws)) && zeros (drop n ws)) out)
 
-  -- what the tests of the entries and of the words behind them tell
-  pub entries_fit : {k : ℕ} {identifiers behind : Bool} → k ≡ n → 1 ≤ k → k ≤ length ws
-      → identifiers ≡ (all (between 1 65535) (take (k - 0) ws) && distinct (take (k - 0) ws)) → behind ≡ zeros (take (length ws - k) (drop k ws))
+  -- what the tests of the entries and of the words behind them tell, each made on the words that it was lent
+  pub entries_fit : {identifiers behind : Bool} → 1 ≤ n → n ≤ length ws
+      → identifiers ≡ (all (between 1 65535) (take (n - 0) ws) && distinct (take (n - 0) ws)) → behind ≡ zeros (take (length ws - n) (drop n ws))
       → (identifiers && behind) ≡ entries_stored n ws
   unfolding entries_stored
-  entries_fit {k} e some few a b =
-      let inside = (between_reads 1 (length ws) n).1 (omega (arith, e, some), omega (arith, e, few)) in
-      ap₂ ◌&&◌ (a ∙ ap (λ (j : ℕ). all (between 1 65535) (take j ws) && distinct (take j ws)) (sub-zero k ∙ e)) (b ∙ ap zeros (rest_lent k ws) ∙ ap (λ (j : ℕ). zeros (drop j ws)) e)
+  entries_fit some few a b =
+      let inside = (between_reads 1 (length ws) n).1 (some, few) in
+      ap₂ ◌&&◌ (a ∙ ap (λ (j : ℕ). all (between 1 65535) (take j ws) && distinct (take j ws)) (sub-zero n)) (b ∙ ap zeros (take_rest ws n))
       ∙ sym (ap (λ (c : Bool). c && (all (between 1 65535) (take n ws) && distinct (take n ws)) && zeros (drop n ws)) inside)
 
   -- what the test says

@@ -1,4 +1,4 @@
--- What the whole instance and the whole table are, by the results of the tests of their parts, which are asked one after another.
+-- What the whole table is, by the results of the tests of its parts, which are asked one after another.
 use mathlib.Core.Path.{◌≡◌, sym, ap, ◌∙◌}
 use mathlib.Core.Bool.{Bool, true, false}
 use mathlib.Core.List.{List}
@@ -9,41 +9,13 @@ use lib.ListN.{length, get_or, take}
 use lib.Seq.{get_or-take}
 use Rattle.meaning.specs.declared.Limits.{Limits}
 use Rattle.meaning.specs.Limits.{named}
-use Rattle.meaning.specs.Places.{lowest}
-use Rattle.meaning.specs.Check.{code_clashes}
 use Rattle.meaning.specs.Write.{stored}
 use Rattle.meaning.proofs.Tests.{fails, le_reads}
-use Rattle.ranges.specs.Clashes.{items_in}
-use Rattle.stored.specs.Parts.{PrintRoom, CountsWithin, rows_stored, item_stored, truck_stored, items_part, trucks_part, nowhere}
+use Rattle.stored.specs.Parts.{PrintRoom, CountsWithin}
 use Rattle.stored.specs.Parts.{head_stored, instance_stored, plan_stored, whole_stored}
 use Rattle.stored.proofs.Scan.{and_failed, and_passed, test_failed, test_passed}
 use Rattle.stored.proofs.Parts.{head_reads}
 use Rattle.stored.proofs.Whole.{whole_stored_lem}
-
--- ---- the instance: its items, its trucks, its code clashes
-module _ (m : Limits) (t : List ℕ) {item_words : List ℕ} (here : item_words ≡ items_part m t) {items : Bool}
-    (items_told : items ≡ rows_stored item_stored 16 (get_or t 3 0) item_words) where
-  of_items : items ≡ rows_stored item_stored 16 (get_or t 3 0) (items_part m t)
-  of_items = items_told ∙ ap (rows_stored item_stored 16 (get_or t 3 0)) here
-
-  pub items_unfit : items ≡ false → false ≡ instance_stored m t
-  unfolding instance_stored
-  items_unfit e = test_failed _ of_items e
-
-  module _ (items_fit : items ≡ true) {truck_words : List ℕ} (there : truck_words ≡ trucks_part m t) {trucks : Bool}
-      (trucks_told : trucks ≡ rows_stored truck_stored 160 (get_or t 4 0) truck_words) where
-    of_trucks : trucks ≡ rows_stored truck_stored 160 (get_or t 4 0) (trucks_part m t)
-    of_trucks = trucks_told ∙ ap (rows_stored truck_stored 160 (get_or t 4 0)) there
-
-    pub trucks_unfit : trucks ≡ false → false ≡ instance_stored m t
-    unfolding instance_stored
-    trucks_unfit e = test_passed of_items items_fit (test_failed _ of_trucks e)
-
-    pub clashes_left : trucks ≡ true → {r : Bool} → r ≡ nowhere (lowest (code_clashes (items_in (get_or t 3 0) item_words))) → r ≡ instance_stored m t
-    unfolding instance_stored
-    clashes_left e told =
-        let same = ap (λ (ws : List ℕ). nowhere (lowest (code_clashes (items_in (get_or t 3 0) ws)))) here in
-        test_passed of_items items_fit (test_passed of_trucks e (told ∙ same))
 
 -- ---- the table: its length, its head, the instance, the plan
 module _ (m : Limits) (print : PrintRoom m) (t : List ℕ) where
@@ -80,3 +52,6 @@ module _ (m : Limits) (print : PrintRoom m) (t : List ℕ) where
         pub plan_left : instance ≡ true → {r : Bool} → r ≡ plan_stored m t → r ≡ stored m t
         unfolding whole_stored
         plan_left e said = and_passed long (test_passed of_head head_fit (test_passed told e said)) ∙ whole_stored_lem m print t
+
+-- what a function cites that asks one part after another
+pub ruleset parts_in_turn = (too_short, head_unfit, instance_unfit, plan_left)

@@ -3,11 +3,12 @@ use mathlib.Core.Path.{◌≡◌, refl, sym, ap, ap₂, ◌∙◌}
 use mathlib.Core.Bool.{Bool, true, false, cond, not, ◌&&◌}
 use mathlib.Core.Option.{Option, none, some}
 use mathlib.Core.List.{List, [], ◌∷◌}
-use Prim.Native.Nat.{ℕ, ◌+◌, ◌*◌, ◌≤◌, ◌<◌}
+use Prim.Native.Nat.{ℕ, ◌+◌, ◌-◌, ◌*◌, ◌≤◌, ◌<◌}
 use native.Mathlib.Omega.{arith}
 use native.Mathlib.Numerals.{add-one}
 use lib.Dec.{leb, eqb}
 use lib.ListN.{length, get_or, take, drop, drop_of_length-le}
+use Rattle.std.proofs.Math.Bool.{and-false}
 use Rattle.meaning.specs.Lists.{between, listed, chunks}
 use Rattle.meaning.specs.Files.{all_within, stack_ranges}
 use Rattle.meaning.proofs.Tests.{and_reads, le_reads}
@@ -15,10 +16,6 @@ use Rattle.meaning.proofs.Lists.{drop_next}
 use Rattle.ranges.specs.Ranges.{row_numbers}
 use Rattle.table.proofs.Parts.{part, part_at, length_chunks, chunk_at}
 use Rattle.stored.specs.Parts.{stack_stored, entries_of}
-
-and_false : (a : Bool) → (a && false) ≡ false
-and_false true = refl
-and_false false = refl
 
 -- what the test of a stack's row says
 pub record StackStored (most trucks loaded : ℕ) (ws : List ℕ) : Type 0 where
@@ -59,9 +56,11 @@ module _ (most trucks n : ℕ) (ws : List ℕ) where
         let none_left : length rows ≤ k = omega (arith, length_chunks 8 n ws) in
         sym (ap (entries_of most trucks (row_numbers k ws) loaded) (drop_of_length-le rows none_left)) ∙ h.decides
 
-    -- the next row
-    module _ {fits repeated : Bool} (m : k < n) (told : fits ≡ stack_stored most trucks loaded (part (8 * k) 8 ws))
-        (asked : repeated ≡ listed (get_or ws (8 * k) 0) (row_numbers k ws)) where
+    -- the next row, which is lent from its first word on up to the next row's
+    module _ {fits : Bool} (m : k < n) (lent : fits ≡ stack_stored most trucks loaded (part (8 * k) (8 * k + 8 - 8 * k) ws)) where
+      told : fits ≡ stack_stored most trucks loaded (part (8 * k) 8 ws)
+      told = let e : 8 * k + 8 - 8 * k ≡ 8 = omega arith in rw e at lent
+
       row_first : get_or (part (8 * k) 8 ws) 0 0 ≡ get_or ws (8 * k) 0
       row_first = let e : 8 * k + 0 ≡ 8 * k = omega arith in part_at (8 * k) 8 0 ws 0 (omega arith) ∙ ap (λ (j : ℕ). get_or ws j 0) e
 
@@ -75,7 +74,7 @@ module _ (most trucks n : ℕ) (ws : List ℕ) where
       abbrev step : Bool → Bool → ℕ → ℕ → Option ℕ
       step a b number count = cond (a && not b) (entries_of most trucks (number ∷ row_numbers k ws) (loaded + count) (drop (k + 1) rows)) none
 
-      here_decides : step fits repeated (get_or ws (8 * k) 0) (get_or ws (8 * k + 7) 0) ≡ entries_of most trucks [] 0 rows
+      here_decides : step fits (listed (get_or ws (8 * k) 0) (row_numbers k ws)) (get_or ws (8 * k) 0) (get_or ws (8 * k + 7) 0) ≡ entries_of most trucks [] 0 rows
       unfolding entries_of
       here_decides =
           let one = part (8 * k) 8 ws in
@@ -84,27 +83,36 @@ module _ (most trucks n : ℕ) (ws : List ℕ) where
           sym (ap (entries_of most trucks earlier loaded) row_here
           ∙ ap (λ (a : Bool). step a (listed (get_or one 0 0) earlier) (get_or one 0 0) (get_or one 7 0)) (sym told)
           ∙ ap (λ (j : ℕ). step fits (listed j earlier) j (get_or one 7 0)) row_first
-          ∙ ap (λ (a : Bool). step fits a number (get_or one 7 0)) (sym asked)
-          ∙ ap (step fits repeated number) (part_at (8 * k) 8 7 ws 0 (omega arith)))
+          ∙ ap (step fits (listed number earlier) number) (part_at (8 * k) 8 7 ws 0 (omega arith)))
           ∙ h.decides
 
-      -- it passes, so it counts; or it does not, and nothing is answered
-      pub row_counts : fits ≡ true → repeated ≡ false → Left (loaded + get_or ws (8 * k + 7) 0) (k + 1)
-      unfolding row_numbers
-      row_counts e f =
-          let s = stack_reads most trucks loaded (part (8 * k) 8 ws) (sym told ∙ e) in
-          let passed = ap₂ (λ (a b : Bool). step a b (get_or ws (8 * k) 0) (get_or ws (8 * k + 7) 0)) (sym e) (sym f) ∙ here_decides in
-          record {
-            upto = omega arith;
-            within = omega (arith, s.total, part_at (8 * k) 8 7 ws 0 (omega arith));
-            decides = let next : row_numbers (k + 1) ws ≡ get_or ws (8 * k) 0 ∷ row_numbers k ws = rw add-one refl in rw next passed;
-          }
-
-      pub row_repeated : repeated ≡ true → none ≡ entries_of most trucks [] 0 rows
-      row_repeated f =
-          let number = get_or ws (8 * k) 0 in
-          let count = get_or ws (8 * k + 7) 0 in
-          sym (ap (λ (b : Bool). step fits b number count) f ∙ ap (λ (a : Bool). cond a (step true false number count) none) (and_false fits)) ∙ here_decides
-
+      -- it is no stack's, so nothing is answered
       pub row_unfit : fits ≡ false → none ≡ entries_of most trucks [] 0 rows
-      row_unfit e = ap (λ (a : Bool). step a repeated (get_or ws (8 * k) 0) (get_or ws (8 * k + 7) 0)) (sym e) ∙ here_decides
+      row_unfit e =
+          let number = get_or ws (8 * k) 0 in
+          ap (λ (a : Bool). step a (listed number (row_numbers k ws)) number (get_or ws (8 * k + 7) 0)) (sym e) ∙ here_decides
+
+      -- it passes, so it counts; or its number is one of those before, and nothing is answered
+      module _ {repeated : Bool} (asked : repeated ≡ listed (get_or ws (8 * k) 0) (row_numbers k ws)) where
+        asked_decides : step fits repeated (get_or ws (8 * k) 0) (get_or ws (8 * k + 7) 0) ≡ entries_of most trucks [] 0 rows
+        asked_decides = rw asked here_decides
+
+        pub row_counts : fits ≡ true → repeated ≡ false → Left (loaded + get_or ws (8 * k + 7) 0) (k + 1)
+        unfolding row_numbers
+        row_counts e f =
+            let s = stack_reads most trucks loaded (part (8 * k) 8 ws) (sym told ∙ e) in
+            let passed = ap₂ (λ (a b : Bool). step a b (get_or ws (8 * k) 0) (get_or ws (8 * k + 7) 0)) (sym e) (sym f) ∙ asked_decides in
+            record {
+              upto = omega arith;
+              within = omega (arith, s.total, part_at (8 * k) 8 7 ws 0 (omega arith));
+              decides = let next : row_numbers (k + 1) ws ≡ get_or ws (8 * k) 0 ∷ row_numbers k ws = rw add-one refl in rw next passed;
+            }
+
+        pub row_repeated : repeated ≡ true → none ≡ entries_of most trucks [] 0 rows
+        row_repeated f =
+            let number = get_or ws (8 * k) 0 in
+            let count = get_or ws (8 * k + 7) 0 in
+            sym (ap (λ (b : Bool). step fits b number count) f ∙ ap (λ (a : Bool). cond a (step true false number count) none) (and-false fits)) ∙ asked_decides
+
+-- what the steps of a loop over the rows cite
+pub ruleset rows_in_turn = (left_all, left_none, row_counts, row_repeated, row_unfit)

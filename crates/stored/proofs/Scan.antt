@@ -2,10 +2,10 @@
 use mathlib.Core.Path.{◌≡◌, refl, sym, ap, ap₂, ◌∙◌}
 use mathlib.Core.Bool.{Bool, true, false, ◌&&◌}
 use mathlib.Core.List.{List, ◌++◌}
-use Prim.Native.Nat.{ℕ, zero, suc, ◌+◌, ◌-◌, ◌*◌, ◌≤◌, ◌<◌}
+use Prim.Native.Nat.{ℕ, zero, suc, ◌+◌, ◌*◌, ◌≤◌, ◌<◌}
 use native.Mathlib.Omega.{arith}
-use lib.ListN.{length, get_or, take, drop, length-append, length-drop, drop_of_length-le}
-use lib.Seq.{take_all, take_at, drop_at}
+use lib.ListN.{length, get_or, drop, length-append, drop_of_length-le}
+use lib.Seq.{take_at, drop_at}
 use Rattle.meaning.specs.Lists.{all, chunks, up_from}
 use Rattle.meaning.proofs.Lists.{drop_next, length_up_from, up_from_at}
 
@@ -45,10 +45,6 @@ test_failed later told e = and_failed later (sym told ∙ e)
 
 pub test_passed : {t b later r : Bool} → t ≡ b → t ≡ true → r ≡ later → r ≡ (b && later)
 test_passed told e k = and_passed (sym told ∙ e) k
-
--- the words from a place to the end
-pub rest_lent : (at : ℕ) (ws : List ℕ) → take (length ws - at) (drop at ws) ≡ drop at ws
-rest_lent at ws = take_all (length ws - at) (drop at ws) (omega (arith, length-drop at ws))
 
 -- ---- rows of w words, of which `left` are left at the front of `rest`, and the next is `row`
 module _ (w later : ℕ) (row behind : List ℕ) {left : ℕ} {rest : List ℕ} (next : later + 1 ≡ left) (cut : rest ≡ row ++ behind) (wide : length row ≡ w) where

@@ -31,6 +31,7 @@ fn are_zero(words: &[u32]) -> bool
 }
 
 // Whether so many words are the entries of a line, and those behind them are zero.
+#[tactic(auto, using(crate::proofs::Entries::entries_unfit, crate::proofs::Entries::entries_fit))]
 fn entries_stored(count: u32, words: &[u32]) -> bool
     ensures { result ≡ entries_stored count words.now }
 {
@@ -79,6 +80,7 @@ fn rows_stored<F: Fn(&[u32]) -> bool>(words: &[u32], width: usize, count: usize,
 }
 
 // Whether the rows of so many items are in range, and the words behind them zero.
+#[tactic(auto, unfolding(meaning::specs::Files::all_within))]
 fn items_stored(words: &[u32], count: usize) -> bool
     requires { 16 * count ≤ length words.now }
     ensures { result ≡ rows_stored item_stored 16 count words.now }
@@ -86,8 +88,10 @@ fn items_stored(words: &[u32], count: usize) -> bool
     rows_stored(words, ITEM_WORDS, count, |row| item_in_range(row, LAST_DAY))
 }
 
-// Whether the docks of so many suppliers are lists behind their counts, each in a row of its own, and the words of other suppliers zero. (Not
-// by `rows_stored`: the test of a row takes the count too, which stands among other words.)
+// Whether the docks of so many suppliers are lists behind their counts, each in a row of its own, and the words of other suppliers zero. The
+// counts and the rows are two slices because they are two parts of a truck's words, 62 to 69 and 70 to 133, and are lent as they lie there.
+// (Not by `rows_stored`: the test of a row takes the count too, which stands among other words.)
+#[tactic(auto, using(crate::proofs::Scan::places_passed, std::proofs::lemmas::List::take_rest), unfolding(crate::specs::Parts::docks_stored))]
 fn docks_stored(suppliers: usize, counts: &[u32], rows: &[u32]) -> bool
     requires { (suppliers ≤ length counts.now) × (length rows.now ≡ 8 * length counts.now) }
     ensures { result ≡ docks_stored suppliers counts.now rows.now }
@@ -102,6 +106,7 @@ fn docks_stored(suppliers: usize, counts: &[u32], rows: &[u32]) -> bool
 }
 
 // Whether 160 words are those of a truck's lines.
+#[tactic(auto, using(crate::proofs::Entries::entries_reads), unfolding(crate::specs::Parts::truck_stored))]
 fn truck_stored(words: &[u32]) -> bool
     requires { length words.now ≡ 160 }
     ensures { result ≡ truck_stored words.now }
@@ -151,6 +156,7 @@ fn stack_stored(row: &[u32], trucks: u32, loaded: usize, most: usize) -> bool
 
 // How many entries the loads of so many stacks hold, whose rows stand one after another. None where a row is not that of a stack, or has the
 // number of one before.
+#[tactic(auto, using(crate::proofs::Rows::rows_in_turn))]
 fn loaded_by(words: &[u32], count: usize, trucks: u32, most: usize) -> Option<usize>
     requires { (8 * count ≤ length words.now) × (most ≤ 65536) }
     ensures { (loaded_by result ≡ entries_of most trucks [] 0 (chunks 8 count words.now)) × LoadedWithin most result }
@@ -170,6 +176,7 @@ fn loaded_by(words: &[u32], count: usize, trucks: u32, most: usize) -> Option<us
 }
 
 // Whether the loads are item numbers as far as the stacks' loads go, and zero behind them.
+#[tactic(auto, unfolding(crate::specs::Parts::loads_stored))]
 fn loads_stored(loads: &[u32], loaded: Option<usize>, items: u32) -> bool
     requires { LoadedWithin (length loads.now) loaded }
     ensures { result ≡ loads_stored items loads.now (loaded_by loaded) }
@@ -183,6 +190,7 @@ fn loads_stored(loads: &[u32], loaded: Option<usize>, items: u32) -> bool
 // ---- the table
 
 // Whether items and trucks are those of an instance that can be read.
+#[tactic(auto, unfolding(crate::specs::Parts::instance_stored))]
 fn instance_stored(table: NamedWords<'_>) -> bool
     requires { CountsWithin table.limits table.words.now }
     ensures { result ≡ instance_stored table.entry.limits table.entry.words.now }
@@ -200,6 +208,7 @@ fn instance_stored(table: NamedWords<'_>) -> bool
 }
 
 // Whether stacks and loads are those of a plan that can be read.
+#[tactic(auto, unfolding(crate::specs::Parts::plan_stored))]
 fn plan_stored(table: NamedWords<'_>) -> bool
     requires { CountsWithin table.limits table.words.now }
     ensures { result ≡ plan_stored table.entry.limits table.entry.words.now }
@@ -213,6 +222,7 @@ fn plan_stored(table: NamedWords<'_>) -> bool
 }
 
 // Whether some readable pair of files fills the table with the words that stand there. The words beyond the named ones do not matter.
+#[tactic(auto, using(crate::proofs::Outcomes::parts_in_turn))]
 pub fn is_stored(t: &[u32], limits: Limits) -> bool
     requires { PrintRoom limits }
     ensures { result ≡ stored limits t.now }

@@ -2,6 +2,7 @@
 use Rattle.std.proofs.Common.{◌≡◌, refl, sym, ◌∙◌, ap, Bool, true, false, cond, ◌||◌, List, [], ◌∷◌, ℕ, suc, ◌+◌, ◌<◌, length, get_or, take, nat_eq, Option, Some, None, position, add-one}
 use Rattle.std.specs.List.{position_from}
 use Rattle.std.proofs.lemmas.Iterator.Adapters.{position_from-zero}
+use Rattle.std.proofs.Math.Bool.{or-false}
 use Rattle.std.proofs.Math.Seq.{take-suc}
 use Rattle.meaning.specs.Lists.{any, listed, order_from, order_in}
 use Rattle.meaning.proofs.Lists.{any_append}
@@ -25,14 +26,11 @@ order_places n k (m ∷ l) =
 pub order_place : (n : ℕ) (l : List ℕ) → order_in l n ≡ order_of (position (nat_eq n) l)
 order_place n l = order_places n 0 l ∙ ap order_of (sym (position_from-zero (nat_eq n) l))
 
-or_false : (b : Bool) → (b || false) ≡ b
-or_false = elim [ true ↦ refl | false ↦ refl ]
-
 -- one place more
 pub listed_more : (n : ℕ) (l : List ℕ) (i : ℕ) → i < length l → listed n (take (i + 1) l) ≡ (listed n (take i l) || nat_eq n (get_or l i 0))
 unfolding any
 listed_more n l i h =
-    let last : listed n (get_or l i 0 ∷ []) ≡ nat_eq n (get_or l i 0) = or_false (nat_eq n (get_or l i 0)) in
+    let last : listed n (get_or l i 0 ∷ []) ≡ nat_eq n (get_or l i 0) = or-false (nat_eq n (get_or l i 0)) in
     rw (add-one i, take-suc l i 0 h) (any_append (nat_eq n) (take i l) (get_or l i 0 ∷ []) ∙ ap (λ b. listed n (take i l) || b) last)
 
 pub listed_none : (n : ℕ) → false ≡ listed n []

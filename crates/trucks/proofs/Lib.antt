@@ -1,3 +1,4 @@
 pub mod Repeat
+pub mod RowWords
 pub mod Docks
 pub mod Truck

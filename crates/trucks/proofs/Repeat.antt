@@ -3,9 +3,9 @@
 use mathlib.Core.Path.{◌≡◌, refl, sym, ◌∙◌}
 use mathlib.Core.List.{List, [], ◌∷◌, ◌++◌, flat_map, append_assoc, append-nil}
 use Prim.Native.Nat.{ℕ, suc, ◌+◌, ◌-◌, ◌*◌, ◌≤◌, ◌<◌}
-use native.Mathlib.Nat.{sub-zero, mul-zero, mul-add}
+use native.Mathlib.Nat.{sub-zero, mul-zero, mul-add, mul-le-mul_left}
 use native.Mathlib.Omega.{arith}
-use borrow.Rule.Slice.PartMut.{put_mid}
+use borrow.Rule.Slice.PartMut.{put_mid, mid_len}
 use lib.ListN.{length, take, drop, replicate, length-append, length-take, length-drop, length-replicate, replicate-append-replicate, drop_of_length-le}
 use lib.Seq.{take_at, drop_at, take_all}
 use Rattle.meaning.specs.Lists.{padded}
@@ -13,8 +13,8 @@ use Rattle.meaning.specs.Reader.{Reader, onward, times}
 use Rattle.meaning.proofs.Lists.{flat_map_more}
 use Rattle.std.specs.Prelude.{Err}
 use Rattle.lines.specs.declared.LineRefused.{LineRefused}
-use Rattle.lines.specs.Progress.{Progress, reached, resumed, Going, WithinFile, ReadInto}
-use Rattle.lines.proofs.Follow.{onward_refused, no_refusal, more, times_first, times_next, times_done}
+use Rattle.lines.specs.Progress.{Progress, reached, resumed, Going, Follows, ReadInto}
+use Rattle.lines.proofs.Follow.{onward_refused, no_refusal, follows_self, follows_on, more, times_first, times_next, times_done}
 use Rattle.trucks.specs.Rows.{rows}
 
 -- ---- words in front and zeros behind them
@@ -65,60 +65,71 @@ module _ {size at : ℕ} {ws out : List ℕ} (f : Front size at ws out) where
 
 -- ---- the state of a loop
 -- k of n values are read. `Holds` says how they stand in the words, unless a line was refused
-pub record Repeat {A : Type 0} (file : List ℕ) (R : Reader A) (Holds : ℕ → List A → List ℕ → Type 0)
+pub record Repeat {A : Type 0} (R : Reader A) (Holds : ℕ → List A → List ℕ → Type 0)
     (n : ℕ) (p : Progress) (out : List ℕ) (q : Progress) (k : ℕ) : Type 0 where
   pub values : List A
   pub below : k ≤ n
   pub holds : Going q → Holds k values out
-  pub within : WithinFile file q
-  pub says : onward (reached file values q) (more R (n - k)) ≡ resumed file p (times n R)
+  pub follows : Follows p q
+  pub says : onward (reached values q) (more R (n - k)) ≡ resumed p (times n R)
 
-module _ {A : Type 0} {file : List ℕ} {R : Reader A} {Holds : ℕ → List A → List ℕ → Type 0} where
-  pub repeat_first : (n : ℕ) (p : Progress) (out : List ℕ) → WithinFile file p → Holds 0 [] out → Repeat file R Holds n p out p 0
-  repeat_first n p out within h = record {
+module _ {A : Type 0} {R : Reader A} {Holds : ℕ → List A → List ℕ → Type 0} where
+  pub repeat_first : (n : ℕ) (p : Progress) (out : List ℕ) → Holds 0 [] out → Repeat R Holds n p out p 0
+  repeat_first n p out h = record {
     values = [];
     below = omega arith;
     holds = λ g. h;
-    within = within;
-    says = rw (sub-zero n) (times_first R file n p);
+    follows = follows_self p;
+    says = rw (sub-zero n) (times_first R n p);
   }
 
-  module _ {n : ℕ} {p : Progress} {out : List ℕ} {q : Progress} {k : ℕ} (s : Repeat file R Holds n p out q k) where
-    pub repeat_next : {w : A → List ℕ} {r : Progress} {run : List ℕ} → k < n → (a : ReadInto file R w q r run) (out' : List ℕ)
+  module _ {n : ℕ} {p : Progress} {out : List ℕ} {q : Progress} {k : ℕ} (s : Repeat R Holds n p out q k) where
+    pub repeat_next : {w : A → List ℕ} {r : Progress} {run : List ℕ} → k < n → (a : ReadInto R w q r run) (out' : List ℕ)
         → ((vs : List A) → Holds k vs out → Going r → Holds (k + 1) (vs ++ a.value ∷ []) out')
-        → Repeat file R Holds n p out' r (k + 1)
+        → Repeat R Holds n p out' r (k + 1)
     repeat_next {w} {r} {run} h a out' step = record {
       values = s.values ++ a.value ∷ [];
       below = omega arith;
       holds = λ g. step s.values (s.holds (no_refusal a g)) g;
-      within = a.within;
+      follows = follows_on p q _ s.follows a.follows;
       says =
           let e : n - k ≡ suc (n - (k + 1)) = omega arith in
-          sym (times_next R file s.values a.value (n - (k + 1)) q r a.says) ∙ rw e at s.says;
+          sym (times_next R s.values a.value (n - (k + 1)) q r a.says) ∙ rw e at s.says;
     }
 
     -- a refusal within ends the reading
-    pub repeat_refused : {w : A → List ℕ} {e : LineRefused} {run : List ℕ} → k < n → ReadInto file R w q (Err e) run
-        → {words : List A → List ℕ} {out' : List ℕ} → ReadInto file (times n R) words p (Err e) out'
+    pub repeat_refused : {w : A → List ℕ} {e : LineRefused} {run : List ℕ} → k < n → ReadInto R w q (Err e) run
+        → {words : List A → List ℕ} {out' : List ℕ} → ReadInto (times n R) words p (Err e) out'
     repeat_refused {e = e} h a = record {
       value = s.values ++ a.value ∷ [];
       says =
           let m = n - (k + 1) in
           let one : n - k ≡ suc m = omega arith in
-          sym (onward_refused e (more R m)) ∙ sym (times_next R file s.values a.value m q (Err e) a.says) ∙ rw one at s.says;
+          sym (onward_refused e (more R m)) ∙ sym (times_next R s.values a.value m q (Err e) a.says) ∙ rw one at s.says;
       holds = λ g. absurd g;
-      within = a.within;
+      follows = follows_on p q _ s.follows a.follows;
     }
 
-    pub repeat_done : (words : List A → List ℕ) → n ≤ k → ((vs : List A) → Holds k vs out → out ≡ words vs) → ReadInto file (times n R) words p q out
+    pub repeat_done : (words : List A → List ℕ) → n ≤ k → ((vs : List A) → Holds k vs out → out ≡ words vs) → ReadInto (times n R) words p q out
     repeat_done words h stands = record {
       value = s.values;
-      says = let e : n - k ≡ 0 = omega (arith, s.below) in sym (times_done R file s.values q) ∙ rw e at s.says;
+      says = let e : n - k ≡ 0 = omega (arith, s.below) in sym (times_done R s.values q) ∙ rw e at s.says;
       holds = λ g. stands s.values (s.holds g);
-      within = s.within;
+      follows = s.follows;
     }
 
 -- ---- runs of one width, one behind the other
+-- there is room for each of them
+pub run_room : (width k count size : ℕ) → k < count → width * count ≤ size → width * k + width ≤ size
+run_room width k count size h room =
+    let more : k + 1 ≤ count = omega arith in
+    omega (arith, mul-le-mul_left width more, mul-add width k 1)
+
+-- and what is lent to it has its width
+pub run_lent : (width k : ℕ) (out : List ℕ) → width * k + width ≤ length out
+    → length (take (width * k + width - width * k) (drop (width * k) out)) ≡ width
+run_lent width k out h = mid_len (width * k) (width * k + width) out h ∙ omega arith
+
 -- the runs of k values fill the part from the front
 pub record Runs {A : Type 0} (size width : ℕ) (w : A → List ℕ) (k : ℕ) (vs : List A) (out : List ℕ) : Type 0 where
   pub front : Front size (width * k) (flat_map w vs) out
@@ -129,24 +140,24 @@ runs_clear size width w out e = record { front = rw (mul-zero width) (front_clea
 
 -- one more run, in the words that were lent
 pub runs_put : {A : Type 0} {size width : ℕ} {w : A → List ℕ} {k : ℕ} {vs : List A} {out : List ℕ} → Runs size width w k vs out
-    → (lent : ℕ) (run : List ℕ) (v : A) → lent ≡ width → width * (k + 1) ≤ size → length run ≡ lent → run ≡ w v
+    → (lent : ℕ) (run : List ℕ) (v : A) → lent ≡ width → width * k + width ≤ size → length run ≡ lent → run ≡ w v
     → Runs size width w (k + 1) (vs ++ v ∷ []) (put_mid (width * k) lent out run)
 runs_put {width = width} {w = w} {k = k} {vs = vs} f lent run v e room l words =
     let at : width * k + lent ≡ width * (k + 1) = omega (arith, mul-add width k 1) in
     record { front = rw (← at, flat_map_more w vs v, ← words) (front_put f.front lent run l (omega arith)) }
 
-module _ {A : Type 0} {file : List ℕ} {R : Reader A} {w : A → List ℕ} {size width : ℕ} where
+module _ {A : Type 0} {R : Reader A} {w : A → List ℕ} {size width : ℕ} where
   -- before the first, in a cleared part
-  pub first : (n : ℕ) (p : Progress) (out : List ℕ) → WithinFile file p → out ≡ replicate size 0 → Repeat file R (Runs size width w) n p out p 0
-  first n p out within e = repeat_first n p out within (runs_clear size width w out e)
+  pub first : (n : ℕ) (p : Progress) (out : List ℕ) → out ≡ replicate size 0 → Repeat R (Runs size width w) n p out p 0
+  first n p out e = repeat_first n p out (runs_clear size width w out e)
 
-  module _ {n : ℕ} {p : Progress} {out : List ℕ} {q : Progress} {k : ℕ} (s : Repeat file R (Runs size width w) n p out q k) where
+  module _ {n : ℕ} {p : Progress} {out : List ℕ} {q : Progress} {k : ℕ} (s : Repeat R (Runs size width w) n p out q k) where
     -- after one more
-    pub next : {r : Progress} {run : List ℕ} → ReadInto file R w q r run → k < n → (lent : ℕ) → lent ≡ width → width * (k + 1) ≤ size → length run ≡ lent
-        → Repeat file R (Runs size width w) n p (put_mid (width * k) lent out run) r (k + 1)
+    pub next : {r : Progress} {run : List ℕ} → ReadInto R w q r run → k < n → (lent : ℕ) → lent ≡ width → width * k + width ≤ size → length run ≡ lent
+        → Repeat R (Runs size width w) n p (put_mid (width * k) lent out run) r (k + 1)
     next {r} {run} a h lent e room l =
         repeat_next s h a (put_mid (width * k) lent out run) (λ vs f g. runs_put f lent run a.value e room l (a.holds g))
 
     -- after the last
-    pub done : n ≤ k → ReadInto file (times n R) (rows size w) p q out
+    pub done : n ≤ k → ReadInto (times n R) (rows size w) p q out
     done h = repeat_done s (rows size w) h (λ vs f. f.front.stands)

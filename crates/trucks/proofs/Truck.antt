@@ -12,7 +12,7 @@ use Rattle.meaning.specs.Files.{truck_line, products_line, suppliers_line, docks
 use Rattle.meaning.specs.Table.{counted_words, truck_words}
 use Rattle.std.specs.Prelude.{Ok, Err}
 use Rattle.lines.specs.declared.LineRefused.{LineRefused}
-use Rattle.lines.specs.declared.Cursor.{Cursor}
+use Rattle.lines.specs.declared.cursor.Cursor.{Cursor}
 use Rattle.lines.specs.declared.LineValue.{LineValue}
 use Rattle.lines.specs.Progress.{Progress, ReadInto, ReadEntries}
 use Rattle.lines.proofs.Follow.{behind, behind_last, stopped}
@@ -51,63 +51,63 @@ parts_words t wide = rw (wide, regroup) refl
 no_truck : Truck
 no_truck = truck_of [] [] [] [] []
 
-module _ {file : List ℕ} {p : Progress} where
-  pub row_refused : {e : LineRefused} {w₁ out : List ℕ} → ReadInto file (line truck_line) (λ ns. ns) p (Err e) w₁ → ReadInto file truck_lines truck_words p (Err e) out
+module _ {p : Progress} where
+  pub row_refused : {e : LineRefused} {w₁ out : List ℕ} → ReadInto (line truck_line) (λ ns. ns) p (Err e) w₁ → ReadInto truck_lines truck_words p (Err e) out
   unfolding truck_lines
   row_refused r = stopped r after_row no_truck
 
-  module _ {row : Cursor} {w₁ : List ℕ} (readRow : ReadInto file (line truck_line) (λ ns. ns) p (Ok row) w₁) where
-    behind_row : {r : Progress} {out : List ℕ} → ReadInto file (after_row readRow.value) truck_words (Ok row) r out → ReadInto file truck_lines truck_words p r out
+  module _ {row : Cursor} {w₁ : List ℕ} (readRow : ReadInto (line truck_line) (λ ns. ns) p (Ok row) w₁) where
+    behind_row : {r : Progress} {out : List ℕ} → ReadInto (after_row readRow.value) truck_words (Ok row) r out → ReadInto truck_lines truck_words p r out
     unfolding truck_lines
     behind_row rest = behind readRow after_row rest
 
-    pub products_refused : {e : LineRefused} {w₂ out : List ℕ} → ReadEntries file (line products_line) (counted_words 32) (Ok row) (Err e) w₂
-        → ReadInto file truck_lines truck_words p (Err e) out
+    pub products_refused : {e : LineRefused} {w₂ out : List ℕ} → ReadEntries (line products_line) (counted_words 32) (Ok row) (Err e) w₂
+        → ReadInto truck_lines truck_words p (Err e) out
     products_refused r = behind_row (stopped r.into (after_products readRow.value) no_truck)
 
-    module _ {products : LineValue ℕ} {w₂ : List ℕ} (readProducts : ReadEntries file (line products_line) (counted_words 32) (Ok row) (Ok products) w₂) where
-      behind_products : {r : Progress} {out : List ℕ} → ReadInto file (after_products readRow.value readProducts.into.value) truck_words (Ok products.next) r out
-          → ReadInto file truck_lines truck_words p r out
+    module _ {products : LineValue ℕ} {w₂ : List ℕ} (readProducts : ReadEntries (line products_line) (counted_words 32) (Ok row) (Ok products) w₂) where
+      behind_products : {r : Progress} {out : List ℕ} → ReadInto (after_products readRow.value readProducts.into.value) truck_words (Ok products.next) r out
+          → ReadInto truck_lines truck_words p r out
       behind_products rest = behind_row (behind readProducts.into (after_products readRow.value) rest)
 
-      pub suppliers_refused : {e : LineRefused} {w₃ out : List ℕ} → ReadEntries file (line suppliers_line) (counted_words 8) (Ok products.next) (Err e) w₃
-          → ReadInto file truck_lines truck_words p (Err e) out
+      pub suppliers_refused : {e : LineRefused} {w₃ out : List ℕ} → ReadEntries (line suppliers_line) (counted_words 8) (Ok products.next) (Err e) w₃
+          → ReadInto truck_lines truck_words p (Err e) out
       suppliers_refused r = behind_products (stopped r.into (after_suppliers readRow.value readProducts.into.value) no_truck)
 
       module _ {suppliers : LineValue ℕ} {w₃ : List ℕ}
-          (readSuppliers : ReadEntries file (line suppliers_line) (counted_words 8) (Ok products.next) (Ok suppliers) w₃) where
+          (readSuppliers : ReadEntries (line suppliers_line) (counted_words 8) (Ok products.next) (Ok suppliers) w₃) where
         behind_suppliers : {r : Progress} {out : List ℕ}
-            → ReadInto file (after_suppliers readRow.value readProducts.into.value readSuppliers.into.value) truck_words (Ok suppliers.next) r out
-            → ReadInto file truck_lines truck_words p r out
+            → ReadInto (after_suppliers readRow.value readProducts.into.value readSuppliers.into.value) truck_words (Ok suppliers.next) r out
+            → ReadInto truck_lines truck_words p r out
         behind_suppliers rest = behind_products (behind readSuppliers.into (after_suppliers readRow.value readProducts.into.value) rest)
 
         -- as many dock lines as suppliers
-        each_supplier : {r : Progress} {w₄ : List ℕ} → ReadInto file (times suppliers.value (line docks_line)) dock_words (Ok suppliers.next) r w₄
-            → ReadInto file (times (length readSuppliers.into.value) (line docks_line)) dock_words (Ok suppliers.next) r w₄
+        each_supplier : {r : Progress} {w₄ : List ℕ} → ReadInto (times suppliers.value (line docks_line)) dock_words (Ok suppliers.next) r w₄
+            → ReadInto (times (length readSuppliers.into.value) (line docks_line)) dock_words (Ok suppliers.next) r w₄
         each_supplier r = rw (sym readSuppliers.count) r
 
         pub docks_refused : {e : LineRefused} {w₄ out : List ℕ}
-            → ReadInto file (times suppliers.value (line docks_line)) dock_words (Ok suppliers.next) (Err e) w₄ → ReadInto file truck_lines truck_words p (Err e) out
+            → ReadInto (times suppliers.value (line docks_line)) dock_words (Ok suppliers.next) (Err e) w₄ → ReadInto truck_lines truck_words p (Err e) out
         docks_refused r =
             behind_suppliers (stopped (each_supplier r) (after_docks readRow.value readProducts.into.value readSuppliers.into.value) no_truck)
 
-        module _ {docks : Cursor} {w₄ : List ℕ} (readDocks : ReadInto file (times suppliers.value (line docks_line)) dock_words (Ok suppliers.next) (Ok docks) w₄) where
+        module _ {docks : Cursor} {w₄ : List ℕ} (readDocks : ReadInto (times suppliers.value (line docks_line)) dock_words (Ok suppliers.next) (Ok docks) w₄) where
           abbrev truck : List ℕ → Truck
           truck l = truck_of readRow.value readProducts.into.value readSuppliers.into.value (each_supplier readDocks).value l
 
           behind_docks : {r : Progress} {out : List ℕ}
-              → ReadInto file (line plant_docks_line >>= λ l. give (truck l)) truck_words (Ok docks) r out → ReadInto file truck_lines truck_words p r out
+              → ReadInto (line plant_docks_line >>= λ l. give (truck l)) truck_words (Ok docks) r out → ReadInto truck_lines truck_words p r out
           behind_docks rest =
               behind_suppliers (behind (each_supplier readDocks) (after_docks readRow.value readProducts.into.value readSuppliers.into.value) rest)
 
-          pub plant_docks_refused : {e : LineRefused} {w₅ out : List ℕ} → ReadEntries file (line plant_docks_line) (counted_words 8) (Ok docks) (Err e) w₅
-              → ReadInto file truck_lines truck_words p (Err e) out
+          pub plant_docks_refused : {e : LineRefused} {w₅ out : List ℕ} → ReadEntries (line plant_docks_line) (counted_words 8) (Ok docks) (Err e) w₅
+              → ReadInto truck_lines truck_words p (Err e) out
           plant_docks_refused r = behind_docks (stopped r.into (λ l. give (truck l)) no_truck)
 
           -- the words stand one behind the other
           pub truck_read : {plant_docks : LineValue ℕ} {w₅ out : List ℕ}
-              → ReadEntries file (line plant_docks_line) (counted_words 8) (Ok docks) (Ok plant_docks) w₅ → Front 160 143 ((((([] ++ w₁) ++ w₂) ++ w₃) ++ w₄) ++ w₅) out
-              → ReadInto file truck_lines truck_words p (Ok plant_docks.next) out
+              → ReadEntries (line plant_docks_line) (counted_words 8) (Ok docks) (Ok plant_docks) w₅ → Front 160 143 ((((([] ++ w₁) ++ w₂) ++ w₃) ++ w₄) ++ w₅) out
+              → ReadInto truck_lines truck_words p (Ok plant_docks.next) out
           truck_read read front = behind_docks (behind_last read.into truck (λ g.
               let filled =
               rw (readRow.holds tt, readProducts.into.holds tt, readSuppliers.into.holds tt, (each_supplier readDocks).holds tt, read.into.holds g) at front

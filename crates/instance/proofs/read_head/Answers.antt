@@ -55,6 +55,6 @@ returns c =
     (number_read c.in_ok-extra.was (c.head_line-3.ensures.says "extra=" refl) c.head_line-3.ensures.within.0)
     (number_read c.in_ok-items.was (c.head_line-4.ensures.says "items=" refl) c.head_line-4.ensures.within.0)
     (number_read c.in_ok-trucks.was (c.head_line-5.ensures.says "trucks=" refl) c.head_line-5.ensures.within.0)
-    (head_words_lem c.clear.new.words _ _ _ _ _ (c.clear.ensures ∙ ap (λ (k : ℕ). replicate k 0) c.requires.1))
+    (head_words_lem c.clear.new.words _ _ _ _ _ (c.clear.ensures ∙ ap (λ (k : ℕ). replicate k 0) c.requires))
     (rw c.in_ok-items.was at c.head_line-4.ensures.within.1)
     (rw c.in_ok-trucks.was at c.head_line-5.ensures.within.1)

@@ -8,5 +8,5 @@ use Rattle.instance.proofs.read_item.Goals as goal
 
 pub returns : goal.returns
 returns c =
-    let says = c.stored_line-stored.ensures.says item_line refl refl (sym c.requires.1) item_refuses_largest in
+    let says = c.stored_line-stored.ensures.says item_line refl refl (sym c.requires) item_refuses_largest in
     rw c.judged.ensures (full_read c.stored_line-stored.ensures (omega arith) item_line says c.item_in_range.result c.item_in_range.ensures)

@@ -2,14 +2,10 @@
 use mathlib.Core.Path.{◌≡◌, refl, ap, ◌∙◌}
 use lib.ListN.{length}
 use Rattle.std.proofs.lemmas.Fn.{says_at}
+use Rattle.std.proofs.lemmas.List.{take_rest}
 use Rattle.stored.specs.Parts.{zeros}
-use Rattle.stored.proofs.Scan.{and_failed, and_passed, rest_lent, rows_fit, row_passed, row_failed, rows_end, rows_there}
+use Rattle.stored.proofs.Scan.{and_failed, and_passed, rows_fit, row_passed, row_failed, rows_end, rows_there}
 use Rattle.stored.proofs.rows_stored.Goals as goal
-
-pub loop-row-init : goal.loop-row-init
-loop-row-init g c =
-    rw (c.into_iter-row-iterator.ensures.into_iter_gives, c.take-row-items.ensures.source, c.take-row-items.ensures.count, c.chunks_exact.ensures.rest, c.chunks_exact.ensures.size)
-    (refl, c.requires.room, λ passes tells. refl)
 
 pub returns-then-not-test : goal.returns-then-not-test
 returns-then-not-test g c passes tells =
@@ -33,4 +29,4 @@ pub returns : goal.returns
 returns g c passes tells =
     let steps = c.in-None.ensures.steps in
     let none_left = rows_there c.args.width _ _ c.loop-row.invariant.0 c.loop-row.invariant.1 (λ some. (steps some).1.0) in
-    and_passed (rows_end passes c.args.width _ _ (c.loop-row.invariant.2 passes tells) none_left) (c.are_zero.ensures ∙ ap zeros (rest_lent _ c.args.words.now))
+    and_passed (rows_end passes c.args.width _ _ (c.loop-row.invariant.2 passes tells) none_left) (c.are_zero.ensures ∙ ap zeros (take_rest c.args.words.now _))

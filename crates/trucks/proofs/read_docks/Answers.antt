@@ -10,7 +10,7 @@ use Rattle.trucks.proofs.Docks.{docks_clear, docks_lent, docks_more, docks_words
 use Rattle.trucks.proofs.read_docks.Goals as goal
 
 pub loop-k-init : goal.loop-k-init
-loop-k-init c = repeat_first _ _ _ c.requires.0 (docks_clear _ (c.clear.ensures ∙ ap (λ (n : ℕ). replicate n 0) c.requires.2))
+loop-k-init c = repeat_first _ _ _ (docks_clear _ (c.clear.ensures ∙ ap (λ (n : ℕ). replicate n 0) c.requires.1))
 
 pub returns-in_err-docks : goal.returns-in_err-docks
 returns-in_err-docks c =

@@ -7,4 +7,4 @@ use Rattle.trucks.proofs.Docks.{Docks}
 use Rattle.trucks.proofs.read_docks.Given as goal
 
 abbrev pub invariant-loop-k : goal.invariant-loop-k
-invariant-loop-k l = Repeat l.file (line docks_line) Docks l.suppliers (Ok l.initial.next) l.part (Ok l.next) l.k
+invariant-loop-k l = Repeat (line docks_line) Docks l.suppliers (Ok l.initial.next) l.part (Ok l.next) l.k

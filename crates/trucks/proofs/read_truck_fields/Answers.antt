@@ -14,4 +14,4 @@ pub returns : goal.returns
 returns c =
     rw c.judged.ensures
     (full_read c.stored_line-stored.ensures (omega (arith, c.stored_line-stored.auto.out)) truck_line
-    (c.stored_line-stored.ensures.says truck_line refl refl (sym c.requires.1) truck-refuses-largest) c.truck_in_range.result c.truck_in_range.ensures)
+    (c.stored_line-stored.ensures.says truck_line refl refl (sym c.requires) truck-refuses-largest) c.truck_in_range.result c.truck_in_range.ensures)
