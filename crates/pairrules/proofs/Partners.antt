@@ -24,7 +24,8 @@ use Rattle.meaning.proofs.RuleKinds.{used_reads}
 use Rattle.meaning.proofs.WellFormed.{meets_formed}
 use Rattle.table.specs.Filled.{no_stack}
 use Rattle.manifest.specs.declared.Block.{Block}
-use Rattle.manifest.specs.Manifest.{manifest_order, manifest_at, in_manifest, HoldsRows, OneTruck, Parted, row_word, same_truck_at}
+use Rattle.manifest.specs.declared.row.Row.{Row}
+use Rattle.manifest.specs.Manifest.{manifest_order, manifest_at, in_manifest, HoldsRows, OneTruck, Parted, row_at, same_truck_at}
 use Rattle.manifest.proofs.Order.{order_within, order_rising, manifest_length, manifest_at_lem, manifest_perm}
 use Rattle.manifest.proofs.Reading.{run_before, run_behind}
 use Rattle.rules.specs.declared.PairRule.{PairRule}
@@ -69,7 +70,7 @@ module _ (kept : Instance → Stack → Stack → Bool) (i : Instance) (p : List
         e.1,
       )
 
-module _ {m : Limits} {t rows : List ℕ} (h : HoldsRows m t rows) where
+module _ {m : Limits} {t : List ℕ} {rows : List Row} (h : HoldsRows m t rows) where
   abbrev i : Instance
   i = instance_in m t
 
@@ -142,12 +143,14 @@ module _ {m : Limits} {t rows : List ℕ} (h : HoldsRows m t rows) where
 
 -- ---- the block of one stack is that of each in it
 -- two rows of one used truck are alike to any other
-same_moved : (rows : List ℕ) (a b k : ℕ) → same_truck_at rows b a ≡ true → same_truck_at rows a k ≡ same_truck_at rows b k
+same_moved : (rows : List Row) (a b k : ℕ) → same_truck_at rows b a ≡ true → same_truck_at rows a k ≡ same_truck_at rows b k
 same_moved rows a b k e =
-    let both = (and_reads (eqb (row_word rows b 2) (row_word rows a 2)) (eqb (row_word rows b 3) (row_word rows a 3))).0 e in
-    rw (eqb-true (row_word rows b 2) (row_word rows a 2) both.0, eqb-true (row_word rows b 3) (row_word rows a 3) both.1) refl
+    let r = row_at rows a in
+    let q = row_at rows b in
+    let both = (and_reads (eqb q.truck r.truck) (eqb q.copy r.copy)).0 e in
+    rw (eqb-true q.truck r.truck both.0, eqb-true q.copy r.copy both.1) refl
 
-module _ {rows : List ℕ} {count : ℕ} {on : Block} where
+module _ {rows : List Row} {count : ℕ} {on : Block} where
   block_moved : {a b : ℕ} → BlockOf rows b count on → Inside on.start on.end a → BlockOf rows a count on
   block_moved {a} {b} h inside =
       record {

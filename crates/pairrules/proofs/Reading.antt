@@ -13,9 +13,10 @@ use Rattle.meaning.specs.Rules.{plant_dock_count, disjoint, in_contact, in_loadi
 use Rattle.meaning.specs.Table.{instance_in, stacks_in}
 use Rattle.table.specs.Filled.{stack_at}
 use Rattle.views.proofs.Bounds.{orders_bound}
-use Rattle.manifest.specs.Manifest.{manifest_order, manifest_at, HoldsRows, row_word}
+use Rattle.manifest.specs.declared.row.Row.{Row}
+use Rattle.manifest.specs.Manifest.{manifest_order, manifest_at, HoldsRows, row_at}
 use Rattle.manifest.proofs.Order.{order_within}
-use Rattle.manifest.proofs.Reading.{word_is, footprint_is, rank_is}
+use Rattle.manifest.proofs.Reading.{row_is, footprint_is, rank_is}
 use Rattle.pairrules.specs.PairRules.{disjoint_footprints, footprints_in_contact, ranks_before, disjoint_at, in_contact_at, in_order_at}
 use Rattle.pairrules.proofs.Ranks.{FewOrders, ranks_before_lem}
 
@@ -23,7 +24,7 @@ use Rattle.pairrules.proofs.Ranks.{FewOrders, ranks_before_lem}
 width_is : (i : Instance) (s : Stack) → ye i s - y s ≡ across i s
 width_is i s = omega arith
 
-module _ {m : Limits} {t rows : List ℕ} (h : HoldsRows m t rows) where
+module _ {m : Limits} {t : List ℕ} {rows : List Row} (h : HoldsRows m t rows) where
   abbrev i : Instance
   i = instance_in m t
 
@@ -34,11 +35,11 @@ module _ {m : Limits} {t rows : List ℕ} (h : HoldsRows m t rows) where
   few_orders k inside = orders_bound h.filled (get_or (manifest_order p) k 0) (order_within p k inside)
 
   -- 17: how many plant docks the stack has, and its code by its place in the plan's file
-  pub docks_are : (k : ℕ) → k < length p → row_word rows k 9 ≡ plant_dock_count i (manifest_at p k)
-  docks_are k inside = word_is h k inside 9 (omega arith)
+  pub docks_are : (k : ℕ) → k < length p → (row_at rows k).plant_docks ≡ plant_dock_count i (manifest_at p k)
+  docks_are k inside = ap (λ (r : Row). r.plant_docks) (row_is h k inside)
 
-  pub code_is : (k : ℕ) → k < length p → {s code : ℕ} → s ≡ row_word rows k 0 → code ≡ IS (bottom i (stack_at p s)) → code ≡ IS (bottom i (manifest_at p k))
-  code_is k inside es e = e ∙ ap (λ s. IS (bottom i (stack_at p s))) (es ∙ word_is h k inside 0 (omega arith))
+  pub code_is : (k : ℕ) → k < length p → {s code : ℕ} → s ≡ (row_at rows k).index → code ≡ IS (bottom i (stack_at p s)) → code ≡ IS (bottom i (manifest_at p k))
+  code_is k inside es e = e ∙ ap (λ s. IS (bottom i (stack_at p s))) (es ∙ ap (λ (r : Row). r.index) (row_is h k inside))
 
   module _ (a b : ℕ) (la : a < length p) (lb : b < length p) where
     pub disjoint_is : disjoint_at rows a b ≡ disjoint i (manifest_at p a) (manifest_at p b)
@@ -56,4 +57,4 @@ module _ {m : Limits} {t rows : List ℕ} (h : HoldsRows m t rows) where
         let s = manifest_at p a in
         let r = manifest_at p b in
         let ranks = ap₂ ranks_before (rank_is h a la) (rank_is h b lb) ∙ ranks_before_lem i s r (few_orders a la) (few_orders b lb) in
-        rw (ranks, word_is h a la 4 (omega arith), word_is h b lb 4 (omega arith))
+        rw (ranks, ap (λ (r : Row). r.footprint) (row_is h a la), ap (λ (r : Row). r.footprint) (row_is h b lb))

@@ -22,14 +22,15 @@ use Rattle.meaning.proofs.Tests.{true≢false}
 use Rattle.search.specs.Lowest.{lowest_in}
 use Rattle.search.proofs.Lowest.{found_first, found_none}
 use Rattle.manifest.specs.declared.Block.{Block}
-use Rattle.manifest.specs.Manifest.{manifest_at, HoldsRows, row_word}
-use Rattle.manifest.proofs.Reading.{word_is}
+use Rattle.manifest.specs.declared.row.Row.{Row}
+use Rattle.manifest.specs.Manifest.{manifest_at, HoldsRows, row_at}
+use Rattle.manifest.proofs.Reading.{row_is}
 use Rattle.rules.specs.declared.PairRule.{PairRule}
 use Rattle.rules.specs.declared.PairRule.TheVariants.{SecondPair, Overlap, Order}
 use Rattle.rules.specs.LoadingRules.{pair_test}
 use Rattle.pairrules.specs.PairRules.{SortedRows, place_at, whole_plan, BlockOf, first_partner}
 use Rattle.pairrules.proofs.Places.{Upto, upto_more}
-use Rattle.pairrules.proofs.Sorted.{place_within, place_there, word_rising}
+use Rattle.pairrules.proofs.Sorted.{place_within, place_there, key_rising}
 use Rattle.pairrules.proofs.Pairs.{single_turned, disjoint_turned}
 use Rattle.pairrules.proofs.Partners.{Broken, pair_listed, listed_pair, stack_in_lem, stack_place_lem, one_stack_lem, number_upto, inside_a, block_used, used_block, some_partners, partner_differs}
 
@@ -39,13 +40,13 @@ abbrev pub KeepsWithAll : PairRule → Instance → List Stack → Stack → Typ
 KeepsWithAll rule i p s = (r : Stack) → In r p → used_by s ≡ used_by r → (number s ≡ number r → ⊥) → pair_test rule i s r ≡ true
 
 -- so do the first k stacks by number
-pub record StacksPassed (rule : PairRule) (m : Limits) (t rows order : List ℕ) (k : ℕ) : Type 0 where
+pub record StacksPassed (rule : PairRule) (m : Limits) (t : List ℕ) (rows : List Row) (order : List ℕ) (k : ℕ) : Type 0 where
   pub held : HoldsRows m t rows
-  pub sorted : SortedRows rows (whole_plan (length (stacks_in m t))) 1 order
+  pub sorted : SortedRows rows (whole_plan (length (stacks_in m t))) (λ (r : Row). r.number) order
   pub passed : Upto (λ l. KeepsWithAll rule (instance_in m t) (stacks_in m t) (manifest_at (stacks_in m t) (get_or order l 0))) 0 (length (stacks_in m t)) k
 
 -- and the next one, at place a, with its partners before place b
-pub record PartnersPassed (rule : PairRule) (m : Limits) (t rows order : List ℕ) (k a : ℕ) (on : Block) (b : ℕ) : Type 0 where
+pub record PartnersPassed (rule : PairRule) (m : Limits) (t : List ℕ) (rows : List Row) (order : List ℕ) (k a : ℕ) (on : Block) (b : ℕ) : Type 0 where
   pub inside : k < length (stacks_in m t)
   pub is : a ≡ get_or order k 0
   pub around : BlockOf rows a (length (stacks_in m t)) on
@@ -53,7 +54,7 @@ pub record PartnersPassed (rule : PairRule) (m : Limits) (t rows order : List �
       (first_partner rule a on.start) on.end b
 
 -- ---- the stacks by number
-module _ {rule : PairRule} {m : Limits} {t rows order : List ℕ} {k : ℕ} (stacks : StacksPassed rule m t rows order k) where
+module _ {rule : PairRule} {m : Limits} {t : List ℕ} {rows : List Row} {order : List ℕ} {k : ℕ} (stacks : StacksPassed rule m t rows order k) where
   abbrev i : Instance
   i = instance_in m t
 
@@ -64,10 +65,10 @@ module _ {rule : PairRule} {m : Limits} {t rows order : List ℕ} {k : ℕ} (sta
   pub numbered_within : (l : ℕ) → l < length p → get_or order l 0 < length p
   numbered_within l inside = omega (arith, place_within stacks.sorted l (omega arith))
 
-  numbered_at : (l : ℕ) → l < length p → row_word rows (place_at (whole_plan (length p)) order l) 1 ≡ number (manifest_at p (get_or order l 0))
+  numbered_at : (l : ℕ) → l < length p → (row_at rows (place_at (whole_plan (length p)) order l)).number ≡ number (manifest_at p (get_or order l 0))
   numbered_at l inside =
       let e : place_at (whole_plan (length p)) order l ≡ get_or order l 0 = omega arith in
-      rw e (word_is stacks.held (get_or order l 0) (numbered_within l inside) 1 (omega arith))
+      rw e (ap (λ (r : Row). r.number) (row_is stacks.held (get_or order l 0) (numbered_within l inside)))
 
   numbered_there : (s : Stack) → In s p → (l : ℕ) × (l < length p) × (s ≡ manifest_at p (get_or order l 0))
   numbered_there s there =
@@ -86,7 +87,7 @@ module _ {rule : PairRule} {m : Limits} {t rows order : List ℕ} {k : ℕ} (sta
     where
       go : (l : ℕ) → l < length p → s ≡ manifest_at p (get_or order l 0) → Dec (k ≤ l) → KeepsWithAll rule i p s
       go l up is (yes q) =
-          let rising = word_rising stacks.sorted k l q (omega arith) in
+          let rising = key_rising stacks.sorted k l q (omega arith) in
           absurd (omega (arith, rising, numbered_at k inside, numbered_at l up, ap number is))
       go l up is (no q) = come s l (omega arith) is
 
@@ -185,10 +186,10 @@ module _ {rule : PairRule} {m : Limits} {t rows order : List ℕ} {k : ℕ} (sta
             true≢false (sym kept ∙ sym (ap₂ (pair_test rule i) one z.2) ∙ w.breaks)
         none_before u v w (inr (same, inr (same', less))) = omega arith
 
-        pub pair_found : {first second : ℕ} → first ≡ row_word rows a 1 → second ≡ row_word rows b 1
+        pub pair_found : {first second : ℕ} → first ≡ (row_at rows a).number → second ≡ (row_at rows b).number
             → Some (place first second 0) ≡ lowest_in (pair_places (pair_test rule) i p)
         pair_found ef es =
-            rw (ef, es, word_is stacks.held a first_within 1 (omega arith), word_is stacks.held b (within up).1 1 (omega arith))
+            rw (ef, es, row_is stacks.held a first_within, row_is stacks.held b (within up).1)
             (found_first _ _ (pair_listed (pair_test rule) i p s (manifest_at p b) found) (λ q m before.
             let w = listed_pair (pair_test rule) i p q m in
             none_before w.0 w.1 w.2 (subst (λ (z : Place). Before z (place (number s) (number (manifest_at p b)) 0)) w.3 before)))

@@ -4,7 +4,8 @@ use Rattle.meaning.specs.Lists.{up_from}
 use Rattle.views.specs.declared.Footprint.{Footprint}
 use Rattle.views.specs.declared.Rank.{Rank}
 use Rattle.manifest.specs.declared.Block.{Block}
-use Rattle.manifest.specs.Manifest.{sort_by, row_word, footprint_at, rank_at, RunBefore, RunBehind}
+use Rattle.manifest.specs.declared.row.Row.{Row}
+use Rattle.manifest.specs.Manifest.{sort_by, row_at, footprint_at, rank_at, RunBefore, RunBehind}
 use Rattle.rules.specs.declared.PairRule.{PairRule}
 use Rattle.rules.specs.declared.PairRule.TheVariants.{SecondPair, Overlap, Order}
 
@@ -28,16 +29,16 @@ ranks_before a b =
     || (eqb a.supplier b.supplier && eqb a.dock b.dock && leb a.highest b.lowest && not (leb b.highest a.lowest))
 
 -- 23 on the stacks at two places of the rows
-abbrev pub disjoint_at : List ℕ → ℕ → ℕ → Bool
+abbrev pub disjoint_at : List Row → ℕ → ℕ → Bool
 disjoint_at rows a b = disjoint_footprints (footprint_at rows a) (footprint_at rows b)
 
 -- 24: b ends where a begins, in contact with it
-abbrev pub in_contact_at : List ℕ → ℕ → ℕ → Bool
+abbrev pub in_contact_at : List Row → ℕ → ℕ → Bool
 in_contact_at rows a b = footprints_in_contact (footprint_at rows a) (footprint_at rows b)
 
--- 25, where x stands in word 4
-abbrev pub in_order_at : List ℕ → ℕ → ℕ → Bool
-in_order_at rows a b = not (ranks_before (rank_at rows a) (rank_at rows b)) || leb (row_word rows a 4) (row_word rows b 4)
+-- 25
+abbrev pub in_order_at : List Row → ℕ → ℕ → Bool
+in_order_at rows a b = not (ranks_before (rank_at rows a) (rank_at rows b)) || leb (row_at rows a).footprint.x (row_at rows b).footprint.x
 
 -- ---- places of the rows
 -- a place from `start` up to `end`
@@ -52,10 +53,14 @@ Each P start end = (k : ℕ) → start ≤ k → k < end → P k
 abbrev pub EachTwo : (ℕ → ℕ → Type 0) → ℕ → ℕ → Type 0
 EachTwo P start end = (j k : ℕ) → Inside start end j → Inside start end k → (j ≡ k → ⊥) → P j k
 
--- `order` has the places of a block, counted from its start, by ascending word of their rows
-pub record SortedRows (rows : List ℕ) (on : Block) (word : ℕ) (order : List ℕ) : Type 0 where
+-- answers by a row, which are always its key
+abbrev pub Tells : (Row → ℕ → Type 0) → (Row → ℕ) → Type 0
+Tells answers key = (row : Row) (r : ℕ) → answers row r → r ≡ key row
+
+-- `order` has the places of a block, counted from its start, by ascending key of their rows
+pub record SortedRows (rows : List Row) (on : Block) (key : Row → ℕ) (order : List ℕ) : Type 0 where
   pub room : on.end - on.start ≤ length order
-  pub is : take (on.end - on.start) order ≡ sort_by (λ k. row_word rows (on.start + k) word) (up_from 0 (on.end - on.start))
+  pub is : take (on.end - on.start) order ≡ sort_by (λ k. key (row_at rows (on.start + k))) (up_from 0 (on.end - on.start))
 
 -- the k-th place in this order
 abbrev pub place_at : Block → List ℕ → ℕ → ℕ
@@ -66,12 +71,12 @@ abbrev pub whole_plan : ℕ → Block
 whole_plan count = record { start = 0; end = count }
 
 -- the stacks on the used truck of the stack at place a, among the first `count`
-pub record BlockOf (rows : List ℕ) (a count : ℕ) (on : Block) : Type 0 where
+pub record BlockOf (rows : List Row) (a count : ℕ) (on : Block) : Type 0 where
   pub before : RunBefore rows on.start (a + 1)
   pub behind : RunBehind rows a on.end count
 
 -- those of some stack, or none
-abbrev pub KnownBlock : List ℕ → ℕ → Block → Type 0
+abbrev pub KnownBlock : List Row → ℕ → Block → Type 0
 KnownBlock rows count on = (on.end ≡ 0) ⊎ ((a : ℕ) × BlockOf rows a count on)
 
 -- where the partners begin that the stack at place a is asked with: for a rule that is the same in both orders behind it, else where its

@@ -2,18 +2,18 @@
 // rows hold the stacks of a used truck together, by ascending number.
 #![tactic(auto)]
 
-ghost use Rattle.std.specs.Prelude.{[], ◌≡◌, ◌↔◌, true, ◌+◌, ◌-◌, ◌*◌, ◌≤◌, ◌<◌, length};
+ghost use Rattle.std.specs.Prelude.{[], ◌≡◌, ◌↔◌, true, ℕ, ◌+◌, ◌-◌, ◌≤◌, ◌<◌, length};
+ghost use Rattle.std.specs.Fn.{FnReturnsAt};
 ghost use Rattle.meaning.specs.Rules.{pair_places, single_pair};
 ghost use Rattle.search.specs.Lowest.{lowest_in};
 ghost use Rattle.rules.specs.LoadingRules.{pair_test};
+ghost use Rattle.manifest.specs.declared.row.Row.{Row};
 ghost use Rattle.manifest.specs.Manifest.{manifest_at, block, OneTruck};
 ghost use Rattle.pairrules.specs.PairRules.{disjoint_footprints, least_footprint_edge, footprints_in_contact, ranks_before, in_order_at};
-ghost use Rattle.pairrules.specs.PairRules.{Each, SortedRows, whole_plan, BlockOf, KnownBlock, first_partner};
+ghost use Rattle.pairrules.specs.PairRules.{Each, Tells, SortedRows, whole_plan, BlockOf, KnownBlock, first_partner};
 ghost use Rattle.table.specs.Held.{instance_of, stacks_of};
 
-use manifest::{
-    Block, Manifest, footprint_at, rank_at, row, row_word, sort, stack_at, truck_end, truck_start,
-};
+use manifest::{Block, Manifest, Row, sort, truck_end, truck_start};
 use meaning::Place;
 use rules::PairRule;
 use table::fields::IS;
@@ -27,14 +27,14 @@ fn is_single_pair(manifest: Manifest<'_>, a: usize, b: usize) -> bool
     ensures { result ≡ single_pair (instance_of manifest.entry.table) (manifest_at (stacks_of manifest.entry.table) a)
         (manifest_at (stacks_of manifest.entry.table) b) }
 {
-    if row_word(manifest.rows, a, row::PLANT_DOCKS) != 2 {
+    if manifest.rows[a].plant_docks != 2 {
         return true;
     }
-    if row_word(manifest.rows, b, row::PLANT_DOCKS) != 2 {
+    if manifest.rows[b].plant_docks != 2 {
         return true;
     }
-    let code = bottom_field(manifest.table, stack_at(manifest.rows, a), IS);
-    code != bottom_field(manifest.table, stack_at(manifest.rows, b), IS)
+    let code = bottom_field(manifest.table, manifest.rows[a].index as usize, IS);
+    code != bottom_field(manifest.table, manifest.rows[b].index as usize, IS)
 }
 
 // 23 overlap, P2: two stacks are disjoint along the trailer or across it.
@@ -80,14 +80,14 @@ fn loads_before(a: Rank, b: Rank) -> bool
 }
 
 // 25 order, P4. The cheap comparison comes first: ranks are compared only where the first stack stands behind the second.
-pub fn in_loading_order(rows: &[u32], a: usize, b: usize) -> bool
-    requires { (16 * a + 16 ≤ length rows.now) × (16 * b + 16 ≤ length rows.now) }
+pub fn in_loading_order(rows: &[Row], a: usize, b: usize) -> bool
+    requires { (a < length rows.now) × (b < length rows.now) }
     ensures { result ≡ in_order_at rows.now a b }
 {
-    if row_word(rows, a, row::X) <= row_word(rows, b, row::X) {
+    if rows[a].footprint.x <= rows[b].footprint.x {
         return true;
     }
-    !loads_before(rank_at(rows, a), rank_at(rows, b))
+    !loads_before(rows[a].rank, rows[b].rank)
 }
 
 // Whether the stacks at two places keep a rule.
@@ -98,10 +98,7 @@ fn pair_kept(rule: PairRule, manifest: Manifest<'_>, a: usize, b: usize) -> bool
 {
     match rule {
         PairRule::SecondPair => is_single_pair(manifest, a, b),
-        PairRule::Overlap => disjoint(
-            footprint_at(manifest.rows, a),
-            footprint_at(manifest.rows, b),
-        ),
+        PairRule::Overlap => disjoint(manifest.rows[a].footprint, manifest.rows[b].footprint),
         PairRule::Order => in_loading_order(manifest.rows, a, b),
     }
 }
@@ -114,7 +111,7 @@ fn is_single_behind(manifest: Manifest<'_>, a: usize, end: usize) -> bool
     ensures { (result ≡ true) ↔ Each (λ b. single_pair (instance_of manifest.entry.table) (manifest_at (stacks_of manifest.entry.table) a)
         (manifest_at (stacks_of manifest.entry.table) b) ≡ true) (a + 1) end }
 {
-    if row_word(manifest.rows, a, row::PLANT_DOCKS) != 2 {
+    if manifest.rows[a].plant_docks != 2 {
         return true;
     }
     for b in a + 1..end {
@@ -141,23 +138,30 @@ pub fn keeps_single_pair(manifest: Manifest<'_>, on: Block) -> bool
 
 // ---- the search over the whole plan
 
-// The places of a block by ascending word of their rows, counted from the block's start. The keys are scratch.
-pub fn order_by(rows: &[u32], on: Block, word: usize, keys: &mut [u64], order: &mut [u32])
-    requires { (on.start ≤ on.end) × (16 * on.end ≤ length rows.now) × (word < 16) × (on.end - on.start ≤ 16777216)
+// The places of a block by ascending field of their rows, counted from the block's start. The keys are scratch.
+pub fn order_by<F: Fn(&Row) -> u32>(
+    rows: &[Row],
+    on: Block,
+    field: F,
+    keys: &mut [u64],
+    order: &mut [u32],
+)
+    requires room { (on.start ≤ on.end) × (on.end ≤ length rows.now) × (on.end - on.start ≤ 16777216)
         × (on.end - on.start ≤ length keys.old) × (on.end - on.start ≤ length order.old) }
-    ensures sorted { SortedRows rows.now on word order.new }
+    requires field { (row : _) → F.pre field row }
+    ensures sorted { (key : Row → ℕ) → Tells (FnReturnsAt F.Fn field) key → SortedRows rows.now on key order.new }
     ensures lengths { (length keys.new ≡ length keys.old) × (length order.new ≡ length order.old) }
 {
     let count = on.end - on.start;
     for k in 0..count {
-        keys[k] = row_word(rows, on.start + k, word) as u64;
+        keys[k] = field(&rows[on.start + k]) as u64;
     }
-    sort(keys, order, count);
+    sort(&keys[..count], &mut order[..count]);
 }
 
 // The stacks on the used truck of the stack at place a. Where it is on the truck that the search was at, these are known.
-fn block_at(rows: &[u32], a: usize, count: usize, on: Block) -> Block
-    requires { (a < count) × (16 * count ≤ length rows.now) × KnownBlock rows.now count on }
+fn block_at(rows: &[Row], a: usize, count: usize, on: Block) -> Block
+    requires { (a < count) × (count ≤ length rows.now) × KnownBlock rows.now count on }
     ensures { BlockOf rows.now a count result }
 {
     if (on.start <= a) & (a < on.end) {
@@ -185,7 +189,7 @@ fn first_partner(rule: PairRule, a: usize, on: Block) -> usize
 // The pair with the lowest first stack number, then the lowest second, that breaks a rule. The stacks are taken by ascending number, and so
 // are the partners of each on its used truck, so the first pair found is the lowest.
 pub fn first_pair(rule: PairRule, manifest: Manifest<'_>, by_number: &[u32]) -> Option<Place>
-    requires { SortedRows manifest.rows.now (whole_plan (length (stacks_of manifest.table))) 1 by_number.now }
+    requires { SortedRows manifest.rows.now (whole_plan (length (stacks_of manifest.table))) (λ (r : Row). r.number) by_number.now }
     ensures { result ≡ lowest_in (pair_places (pair_test rule) (instance_of manifest.entry.table) (stacks_of manifest.entry.table)) }
 {
     let count = manifest.table.stack_count();
@@ -197,8 +201,8 @@ pub fn first_pair(rule: PairRule, manifest: Manifest<'_>, by_number: &[u32]) -> 
         for b in first_partner(rule, a, on)..on.end {
             if !pair_kept(rule, manifest, a, b) {
                 found = Some(Place {
-                    first: row_word(manifest.rows, a, row::NUMBER),
-                    second: row_word(manifest.rows, b, row::NUMBER),
+                    first: manifest.rows[a].number,
+                    second: manifest.rows[b].number,
                     third: 0,
                 });
                 break 'search;

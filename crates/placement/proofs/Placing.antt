@@ -22,9 +22,11 @@ use Rattle.meaning.proofs.Extents.{Ends, formed_ends}
 use Rattle.search.specs.Lowest.{lowest_in}
 use Rattle.search.proofs.Lowest.{lowest_members}
 use Rattle.manifest.specs.declared.Block.{Block}
-use Rattle.manifest.specs.Manifest.{manifest_at, block, HoldsRows, OneTruck, row_word}
+use Rattle.views.specs.declared.Footprint.{Footprint}
+use Rattle.manifest.specs.declared.row.Row.{Row}
+use Rattle.manifest.specs.Manifest.{manifest_at, block, HoldsRows, OneTruck, row_at, footprint_at}
 use Rattle.manifest.proofs.UsedTrucks.{block_place}
-use Rattle.manifest.proofs.Reading.{word_is}
+use Rattle.manifest.proofs.Reading.{row_is, footprint_is}
 use Rattle.pairrules.specs.PairRules.{in_contact_at, Inside, EachTwo}
 use Rattle.pairrules.proofs.Places.{block_has, block_pairs}
 use Rattle.pairrules.proofs.Reading.{disjoint_is, contact_is, order_is}
@@ -40,7 +42,7 @@ two_agree same = (
   (λ two j k a b differ. same j k a b ∙ two j k a b differ),
 )
 
-module _ {m : Limits} {t rows : List ℕ} {on : Block} (h : HoldsRows m t rows) (one : OneTruck (stacks_in m t) on.start on.end) where
+module _ {m : Limits} {t : List ℕ} {rows : List Row} {on : Block} (h : HoldsRows m t rows) (one : OneTruck (stacks_in m t) on.start on.end) where
   abbrev i : Instance
   i = instance_in m t
 
@@ -57,11 +59,14 @@ module _ {m : Limits} {t rows : List ℕ} {on : Block} (h : HoldsRows m t rows) 
   ends : (k : ℕ) → k < on.end → Ends i (manifest_at p k)
   ends k up = formed_ends i (manifest_at p k) ((meets_formed m i p h.filled.range).stacks (manifest_at p k) (stack_in_lem h k (within k up)))
 
-  extent : (k : ℕ) → k < on.end → row_word rows k 4 < row_word rows k 5
-  extent k up = rw (word_is h k (within k up) 4 (omega arith), word_is h k (within k up) 5 (omega arith)) (ends k up).long
+  extent : (k : ℕ) → k < on.end → (footprint_at rows k).x < (footprint_at rows k).xe
+  extent k up = rw (footprint_is h k (within k up)) (ends k up).long
 
-  width : (k : ℕ) → k < on.end → row_word rows k 6 < row_word rows k 7
-  width k up = rw (word_is h k (within k up) 6 (omega arith), word_is h k (within k up) 7 (omega arith)) (ends k up).wide
+  width : (k : ℕ) → k < on.end → (footprint_at rows k).y < (footprint_at rows k).ye
+  width k up = rw (footprint_is h k (within k up)) (ends k up).wide
+
+  begin : (k : ℕ) → k < length p → (footprint_at rows k).x ≡ x (manifest_at p k)
+  begin k inside = ap (λ (g : Footprint). g.x) (footprint_is h k inside)
 
   pub truck_rows : TruckRows rows on
   truck_rows =
@@ -88,8 +93,8 @@ module _ {m : Limits} {t rows : List ℕ} {on : Block} (h : HoldsRows m t rows) 
             used,
             λ q.
                 let same = one_stack_lem h s r (stack_in_lem h k lk) (stack_in_lem h j lj) q in
-                let begins : row_word rows k 4 ≡ row_word rows j 4 = word_is h k lk 4 (omega arith) ∙ ap x same ∙ sym (word_is h j lj 4 (omega arith)) in
-                let ends = eqb-true (row_word rows j 5) (row_word rows k 4) ((and_reads _ _).0 e).0 in
+                let begins : (footprint_at rows k).x ≡ (footprint_at rows j).x = begin k lk ∙ ap x same ∙ sym (begin j lj) in
+                let ends = eqb-true (footprint_at rows j).xe (footprint_at rows k).x ((and_reads _ _).0 e).0 in
                 omega (arith, begins, ends, extent j b.1),
           ),
           sym contact ∙ e,
@@ -106,7 +111,7 @@ module _ {m : Limits} {t rows : List ℕ} {on : Block} (h : HoldsRows m t rows) 
   braced_is : (k : ℕ) → Inside on.start on.end k → braced_at rows on k ≡ braced i stacks (manifest_at p k)
   braced_is k a =
       let s = manifest_at p k in
-      let front = word_is h k (within k a.1) 4 (omega arith) in
+      let front = begin k (within k a.1) in
       let any_same = same_test (any (in_contact_at rows k) places) (any (braced_by i s) stacks) (
         (λ e.
             let w = (any_reads (in_contact_at rows k) places).0 e in
@@ -122,8 +127,8 @@ module _ {m : Limits} {t rows : List ℕ} {on : Block} (h : HoldsRows m t rows) 
 
   -- the same stacks are listed
   placed_at : (k : ℕ) → Inside on.start on.end k
-      → only_if (not (braced_at rows on k)) (place (row_word rows k 1) 0 0) ≡ only_if (not (braced i stacks (manifest_at p k))) (place (number (manifest_at p k)) 0 0)
-  placed_at k a = ap₂ (λ (b : Bool) n. only_if (not b) (place n 0 0)) (braced_is k a) (word_is h k (within k a.1) 1 (omega arith))
+      → only_if (not (braced_at rows on k)) (place (row_at rows k).number 0 0) ≡ only_if (not (braced i stacks (manifest_at p k))) (place (number (manifest_at p k)) 0 0)
+  placed_at k a = ap₂ (λ (b : Bool) n. only_if (not b) (place n 0 0)) (braced_is k a) (ap (λ (r : Row). r.number) (row_is h k (within k a.1)))
 
   unbraced_same : lowest_in (unbraced_places rows on) ≡ lowest_in (stack_places braced no_amount i stacks)
   unfolding stack_places

@@ -3,7 +3,7 @@ use mathlib.Core.Path.{◌≡◌, refl, sym, ap, ap₂, ◌∙◌}
 use mathlib.Core.Logic.{◌↔◌, inr}
 use mathlib.Core.Bool.{Bool, true, false}
 use mathlib.Core.List.{List}
-use Prim.Native.Nat.{ℕ, ◌+◌, ◌-◌, ◌*◌, ◌≤◌, ◌<◌}
+use Prim.Native.Nat.{ℕ, ◌+◌, ◌-◌, ◌≤◌, ◌<◌}
 use native.Mathlib.Decide.{dec_le}
 use native.Mathlib.Omega.{arith}
 use borrow.Author.Tests.{le-leb, eqb-true, eq-eqb, ne_eqb}
@@ -14,16 +14,20 @@ use Rattle.meaning.proofs.Tests.{true≢false, and_reads, or_reads, or_false, fa
 use Rattle.meaning.proofs.Lists.{any_reads, in_up_from}
 use Rattle.views.specs.declared.Footprint.{Footprint}
 use Rattle.manifest.specs.declared.Block.{Block}
-use Rattle.manifest.specs.Manifest.{row_word, footprint_at}
+use Rattle.manifest.specs.declared.row.Row.{Row}
+use Rattle.manifest.specs.Manifest.{footprint_at}
 use Rattle.pairrules.specs.PairRules.{disjoint_footprints, footprints_in_contact, disjoint_at, in_contact_at, in_order_at, Each, place_at}
 use Rattle.pairrules.proofs.Places.{Upto, upto_kept, same_told}
-use Rattle.pairrules.proofs.Sorted.{place_within, place_there, word_rising}
+use Rattle.pairrules.proofs.Sorted.{place_within, place_there, key_rising}
 use Rattle.placement.specs.Placed.{RowsByX, braced_at}
 
-module _ {rows : List ℕ} {on : Block} {along : List ℕ} (h : RowsByX rows on along) (k : ℕ) (inside : k < on.end - on.start) where
+module _ {rows : List Row} {on : Block} {along : List ℕ} (h : RowsByX rows on along) (k : ℕ) (inside : k < on.end - on.start) where
   -- there is a row at the k-th place
-  pub nth_room : 16 * place_at on along k + 16 ≤ length rows
+  pub nth_room : place_at on along k < length rows
   nth_room = omega (arith, place_within h.sorted k inside, h.truck.room)
+
+  pub nth_few : place_at on along k < 16777216
+  nth_few = omega (arith, place_within h.sorted k inside, h.truck.few)
 
   pub nth_listed : In (place_at on along k) (up_from on.start (on.end - on.start))
   nth_listed = (in_up_from on.start (on.end - on.start) (place_at on along k)).1 (omega (arith, place_within h.sorted k inside))
@@ -37,28 +41,28 @@ module _ {rows : List ℕ} {on : Block} {along : List ℕ} (h : RowsByX rows on 
 
 -- ---- 23: the stacks behind the k-th
 -- it lies apart from those before the j-th
-pub record ClearUpto (rows : List ℕ) (on : Block) (along : List ℕ) (k : ℕ) (ground : Footprint) (j : ℕ) : Type 0 where
+pub record ClearUpto (rows : List Row) (on : Block) (along : List ℕ) (k : ℕ) (ground : Footprint) (j : ℕ) : Type 0 where
   pub held : RowsByX rows on along
   pub is : ground ≡ footprint_at rows (place_at on along k)
   pub passed : Upto (λ l. disjoint_at rows (place_at on along k) (place_at on along l) ≡ true) (k + 1) (on.end - on.start) j
 
-abbrev Clear : List ℕ → Block → List ℕ → ℕ → Type 0
+abbrev Clear : List Row → Block → List ℕ → ℕ → Type 0
 Clear rows on along k = Each (λ l. disjoint_at rows (place_at on along k) (place_at on along l) ≡ true) (k + 1) (on.end - on.start)
 
-module _ {rows : List ℕ} {on : Block} {along : List ℕ} {k : ℕ} {ground : Footprint} where
+module _ {rows : List Row} {on : Block} {along : List ℕ} {k : ℕ} {ground : Footprint} where
   module _ {j : ℕ} (h : ClearUpto rows on along k ground j) where
     module _ (up : j < on.end - on.start) {other : Footprint} (eo : other ≡ footprint_at rows (place_at on along j)) where
       -- the j-th begins where the k-th ends, or behind, and so do all further along
       pub clear_behind : ground.xe ≤ other.x → (true ≡ true) ↔ Clear rows on along k
       clear_behind ends = ((λ e l from less. go l from less (dec_le j l)), (λ each. refl))
         where
-          begins : row_word rows (place_at on along k) 5 ≤ row_word rows (place_at on along j) 4
+          begins : (footprint_at rows (place_at on along k)).xe ≤ (footprint_at rows (place_at on along j)).x
           begins = rw (h.is, eo) at ends
 
           go : (l : ℕ) → k + 1 ≤ l → l < on.end - on.start → Dec (j ≤ l) → disjoint_at rows (place_at on along k) (place_at on along l) ≡ true
           go l from less (yes q) =
-              let further : row_word rows (place_at on along k) 5 ≤ row_word rows (place_at on along l) 4 =
-              omega (arith, begins, word_rising h.held.sorted j l q less)
+              let further : (footprint_at rows (place_at on along k)).xe ≤ (footprint_at rows (place_at on along l)).x =
+              omega (arith, begins, key_rising h.held.sorted j l q less)
               in
               rw (le-leb _ _ further) refl
           go l from less (no q) = h.passed.each l from (omega arith)
@@ -69,7 +73,7 @@ module _ {rows : List ℕ} {on : Block} {along : List ℕ} {k : ℕ} {ground : F
 
 -- ---- 24: the stacks before the k-th
 -- none from the j-th on braces it, nor does the front wall
-pub record NoBrace (rows : List ℕ) (on : Block) (along : List ℕ) (k : ℕ) (ground : Footprint) (j : ℕ) : Type 0 where
+pub record NoBrace (rows : List Row) (on : Block) (along : List ℕ) (k : ℕ) (ground : Footprint) (j : ℕ) : Type 0 where
   pub held : RowsByX rows on along
   pub inside : k < on.end - on.start
   pub is : ground ≡ footprint_at rows (place_at on along k)
@@ -77,10 +81,10 @@ pub record NoBrace (rows : List ℕ) (on : Block) (along : List ℕ) (k : ℕ) (
   pub upto : j ≤ k
   pub each : Each (λ l. in_contact_at rows (place_at on along k) (place_at on along l) ≡ false) j k
 
-pub at_front : (rows : List ℕ) (on : Block) (at : ℕ) {ground : Footprint} → ground ≡ footprint_at rows at → ground.x ≡ 0 → true ≡ braced_at rows on at
-at_front rows on at e z = rw (eq-eqb (row_word rows at 4) 0 (sym (ap (λ (g : Footprint). g.x) e) ∙ z)) refl
+pub at_front : (rows : List Row) (on : Block) (at : ℕ) {ground : Footprint} → ground ≡ footprint_at rows at → ground.x ≡ 0 → true ≡ braced_at rows on at
+at_front rows on at e z = rw (eq-eqb (footprint_at rows at).x 0 (sym (ap (λ (g : Footprint). g.x) e) ∙ z)) refl
 
-module _ {rows : List ℕ} {on : Block} {along : List ℕ} {k : ℕ} {ground : Footprint} {j : ℕ} (h : NoBrace rows on along k ground j) where
+module _ {rows : List Row} {on : Block} {along : List ℕ} {k : ℕ} {ground : Footprint} {j : ℕ} (h : NoBrace rows on along k ground j) where
   abbrev touches : ℕ → Bool
   touches at = in_contact_at rows (place_at on along k) at
 
@@ -88,7 +92,7 @@ module _ {rows : List ℕ} {on : Block} {along : List ℕ} {k : ℕ} {ground : F
   others = up_from on.start (on.end - on.start)
 
   abbrev front : Bool
-  front = eqb (row_word rows (place_at on along k) 4) 0
+  front = eqb (footprint_at rows (place_at on along k)).x 0
 
   pub both_wide : 0 < j → {other : Footprint} → other ≡ footprint_at rows (place_at on along (j - 1)) → (ground.y ≤ ground.ye) × (other.y ≤ other.ye)
   both_wide some eo = (nth_wide h.held k h.inside h.is, nth_wide h.held (j - 1) (omega (arith, h.upto, h.inside)) eo)
@@ -107,12 +111,12 @@ module _ {rows : List ℕ} {on : Block} {along : List ℕ} {k : ℕ} {ground : F
   none_behind : (l : ℕ) → k ≤ l → l < on.end - on.start → touches (place_at on along l) ≡ true → ⊥
   none_behind l from less e =
       let place = place_within h.held.sorted l less in
-      let ends = eqb-true (row_word rows (place_at on along l) 5) (row_word rows (place_at on along k) 4) ((and_reads _ _).0 e).0 in
-      omega (arith, ends, h.held.truck.long (place_at on along l) place.0 place.1, word_rising h.held.sorted k l from less)
+      let ends = eqb-true (footprint_at rows (place_at on along l)).xe (footprint_at rows (place_at on along k)).x ((and_reads _ _).0 e).0 in
+      omega (arith, ends, h.held.truck.long (place_at on along l) place.0 place.1, key_rising h.held.sorted k l from less)
 
   pub not_braced : j ≤ 0 → false ≡ braced_at rows on (place_at on along k)
   not_braced last =
-      let wall : front ≡ false = ne_eqb (row_word rows (place_at on along k) 4) 0 (λ q. h.behind (ap (λ (g : Footprint). g.x) h.is ∙ q)) in
+      let wall : front ≡ false = ne_eqb (footprint_at rows (place_at on along k)).x 0 (λ q. h.behind (ap (λ (g : Footprint). g.x) h.is ∙ q)) in
       let alone : any touches others ≡ false = fails (any touches others) (λ e.
       let w = (any_reads touches others).0 e in
       let v = place_there h.held.sorted w.0 (omega (arith, (in_up_from on.start (on.end - on.start) w.0).0 w.1)) in
@@ -126,16 +130,16 @@ module _ {rows : List ℕ} {on : Block} {along : List ℕ} {k : ℕ} {ground : F
 
 -- ---- 25: the stacks before the k-th
 -- it keeps the loading order with those before the j-th
-pub record InOrderUpto (rows : List ℕ) (on : Block) (along : List ℕ) (k at j : ℕ) : Type 0 where
+pub record InOrderUpto (rows : List Row) (on : Block) (along : List ℕ) (k at j : ℕ) : Type 0 where
   pub held : RowsByX rows on along
   pub inside : k < on.end - on.start
   pub is : at ≡ place_at on along k
   pub passed : Upto (λ l. in_order_at rows (place_at on along k) (place_at on along l) ≡ true) 0 k j
 
-module _ {rows : List ℕ} {on : Block} {along : List ℕ} {k at : ℕ} where
+module _ {rows : List Row} {on : Block} {along : List ℕ} {k at : ℕ} where
   module _ {j : ℕ} (h : InOrderUpto rows on along k at j) where
     module _ (up : j < k) {other : ℕ} (eo : other ≡ place_at on along j) where
-      pub both_room : (16 * at + 16 ≤ length rows) × (16 * other + 16 ≤ length rows)
+      pub both_room : (at < length rows) × (other < length rows)
       both_room = (rw h.is (nth_room h.held k h.inside), rw eo (nth_room h.held j (omega (arith, h.inside))))
 
       module _ {kept : Bool} (asks : kept ≡ in_order_at rows at other) where

@@ -18,10 +18,11 @@ use Rattle.meaning.proofs.Lists.{in_flat_map, in_up_from}
 use Rattle.search.specs.Lowest.{lowest_in, place_cmp, lower_by}
 use Rattle.search.proofs.Lowest.{lowest_members, LowestFrom, from_start, from_more, from_end}
 use Rattle.manifest.specs.declared.Block.{Block}
-use Rattle.manifest.specs.Manifest.{row_word, footprint_at, rank_at}
+use Rattle.manifest.specs.declared.row.Row.{Row}
+use Rattle.manifest.specs.Manifest.{row_at, footprint_at, rank_at}
 use Rattle.pairrules.specs.PairRules.{ranks_before, disjoint_at, in_order_at, Inside, Each, EachTwo, place_at}
 use Rattle.pairrules.proofs.Places.{behind_enough}
-use Rattle.pairrules.proofs.Sorted.{place_within, place_there, place_once, order-in, word_rising}
+use Rattle.pairrules.proofs.Sorted.{place_within, place_there, place_once, order-in, key_rising}
 use Rattle.pairrules.proofs.Ranks.{in_front}
 use Rattle.pairrules.proofs.Pairs.{footprints_turned}
 use Rattle.placement.specs.Placed.{RowsByX, braced_at, unbraced_places, PlacedRows}
@@ -58,10 +59,10 @@ module _ {P : ℕ → Type 0} {count : ℕ} where
 
 -- ---- along the trailer
 -- the place that the stack at place j of the block gives to 24
-abbrev unbraced_at : List ℕ → Block → ℕ → List Place
-unbraced_at rows on j = only_if (not (braced_at rows on (on.start + j))) (place (row_word rows (on.start + j) 1) 0 0)
+abbrev unbraced_at : List Row → Block → ℕ → List Place
+unbraced_at rows on j = only_if (not (braced_at rows on (on.start + j))) (place (row_at rows (on.start + j)).number 0 0)
 
-module _ {rows : List ℕ} {on : Block} {along : List ℕ} (h : RowsByX rows on along) where
+module _ {rows : List Row} {on : Block} {along : List ℕ} (h : RowsByX rows on along) where
   abbrev count : ℕ
   count = on.end - on.start
 
@@ -99,7 +100,7 @@ module _ {rows : List ℕ} {on : Block} {along : List ℕ} (h : RowsByX rows on 
     where
       go : Each (λ k. Each (λ j. in_order_at rows (nth k) (nth j) ≡ true) 0 k) 0 count → (j k : ℕ) → Inside 0 count j → Inside 0 count k → Dec (j ≤ k)
           → in_order_at rows (nth j) (nth k) ≡ true
-      go before j k a b (yes q) = sym (in_front (not (ranks_before (rank_at rows (nth j)) (rank_at rows (nth k)))) (row_word rows (nth j) 4) (row_word rows (nth k) 4) (word_rising h.sorted j k q b.1))
+      go before j k a b (yes q) = sym (in_front (not (ranks_before (rank_at rows (nth j)) (rank_at rows (nth k)))) (footprint_at rows (nth j)).x (footprint_at rows (nth k)).x (key_rising h.sorted j k q b.1))
       go before j k a b (no q) = before j a.0 a.1 k (omega arith) (omega arith)
 
   -- ---- 24: the places along the trailer are those of the truck
@@ -116,19 +117,19 @@ module _ {rows : List ℕ} {on : Block} {along : List ℕ} (h : RowsByX rows on 
         (in_flat_map (unbraced_at rows on) (take count along) q).1 (
           w.0 - on.start,
           (order-in h.sorted _).1 (omega (arith, v)),
-          subst (λ k. In q (only_if (not (braced_at rows on k)) (place (row_word rows k 1) 0 0))) e w.2,
+          subst (λ k. In q (only_if (not (braced_at rows on k)) (place (row_at rows k).number 0 0))) e w.2,
         )),
   )
 
 -- ---- the walk
 -- the stacks from the k-th on: whether each is clear of those behind it, and the lowest unbraced one
-pub record PlacedFrom (rows : List ℕ) (on : Block) (along : List ℕ) (k : ℕ) (apart : Bool) (unbraced : Option Place) : Type 0 where
+pub record PlacedFrom (rows : List Row) (on : Block) (along : List ℕ) (k : ℕ) (apart : Bool) (unbraced : Option Place) : Type 0 where
   pub held : RowsByX rows on along
   pub clear : AllFrom (λ l. Each (λ j. disjoint_at rows (place_at on along l) (place_at on along j) ≡ true) (l + 1) (on.end - on.start))
       (on.end - on.start) k apart
   pub lowest : LowestFrom (unbraced_at rows on) (take (on.end - on.start) along) k unbraced
 
-module _ {rows : List ℕ} {on : Block} {along : List ℕ} where
+module _ {rows : List Row} {on : Block} {along : List ℕ} where
   pub placed_start : RowsByX rows on along → PlacedFrom rows on along (on.end - on.start) true None
   placed_start h =
       record { held = h; clear = all_start; lowest = from_start (omega (arith, length-take (on.end - on.start) along, h.sorted.room)) }
@@ -138,7 +139,7 @@ module _ {rows : List ℕ} {on : Block} {along : List ℕ} where
     next_inside some = omega (arith, placed.clear.upto)
 
     -- the next one: whether it is braced, and where no two overlap so far, whether it is clear
-    module _ (some : 0 < k) {at number : ℕ} {braced : Bool} {here r : Option Place} (ea : at ≡ place_at on along (k - 1)) (en : number ≡ row_word rows at 1)
+    module _ (some : 0 < k) {at number : ℕ} {braced : Bool} {here r : Option Place} (ea : at ≡ place_at on along (k - 1)) (en : number ≡ (row_at rows at).number)
         (eb : braced ≡ braced_at rows on (place_at on along (k - 1))) (eh : here ≡ lowest_in (only_if (not braced) (place number 0 0)))
         (er : r ≡ lower_by place_cmp here unbraced) where
       lowest_more : LowestFrom (unbraced_at rows on) (take (on.end - on.start) along) (k - 1) r

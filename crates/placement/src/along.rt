@@ -3,12 +3,12 @@
 ghost use Rattle.placement.specs.Placed.{RowsByX};
 ghost use Rattle.placement.specs.Props.{by_x_prop};
 
-use manifest::Block;
+use manifest::{Block, Row};
 
 // The rows of a manifest, the block of a used truck's stacks in them, and their places by ascending x, counted from the block's start.
 #[derive(Clone, Copy)]
 pub struct Trailer<'a> {
-    pub rows: &'a [u32],
+    pub rows: &'a [Row],
     pub on: Block,
     pub along: &'a [u32],
     pub ghost sorted: { RowsByX rows.now on along.now } by { by_x_prop rows.now on along.now },

@@ -4,12 +4,12 @@
 #![tactic(auto)]
 
 ghost use Rattle.std.specs.Prelude.{◌≡◌, ◌↔◌, true, ◌+◌, ◌-◌, ◌≤◌, ◌<◌, length};
-ghost use Rattle.manifest.specs.Manifest.{footprint_at};
+ghost use Rattle.manifest.specs.Manifest.{row_at, footprint_at};
 ghost use Rattle.pairrules.specs.PairRules.{disjoint_at, in_order_at, Each, EachTwo, place_at};
 ghost use Rattle.placement.specs.Placed.{TruckRows, braced_at, PlacedRows};
 
 use along::Trailer;
-use manifest::{Block, footprint_at, row, row_word};
+use manifest::{Block, Row};
 use meaning::Place;
 use pairrules::{disjoint, in_contact, in_loading_order, order_by};
 use search::{lower_of, place_if};
@@ -33,12 +33,20 @@ impl<'a> Trailer<'a> {
         self.on.start + (self.along[k] as usize)
     }
 
+    // The row of the k-th stack.
+    fn row(self, k: usize) -> &'a Row
+        requires { k < self.on.end - self.on.start }
+        ensures { result.now ≡ row_at self.entry.rows.now (place_at self.entry.on self.entry.along.now k) }
+    {
+        &self.rows[self.place(k)]
+    }
+
     // The ground that the k-th stack takes.
     fn footprint(self, k: usize) -> Footprint
         requires { k < self.on.end - self.on.start }
         ensures { result ≡ footprint_at self.entry.rows.now (place_at self.entry.on self.entry.along.now k) }
     {
-        footprint_at(self.rows, self.place(k))
+        self.row(k).footprint
     }
 
     // 23 overlap: whether no stack further along overlaps the k-th. Those that begin where it ends, or behind, cannot.
@@ -114,7 +122,7 @@ impl<'a> Trailer<'a> {
         let mut apart = true;
         let mut unbraced = None;
         for k in (0..self.on.end - self.on.start).rev() {
-            let number = row_word(self.rows, self.place(k), row::NUMBER);
+            let number = self.row(k).number;
             let here = place_if(!self.is_braced(k), number, 0, 0);
             unbraced = lower_of(here, unbraced);
             apart = apart && self.is_clear(k);
@@ -129,11 +137,11 @@ impl<'a> Trailer<'a> {
 }
 
 // How the stacks of a used truck are placed. The keys and the places along the trailer are scratch.
-pub fn truck_placement(rows: &[u32], on: Block, keys: &mut [u64], along: &mut [u32]) -> Placement
+pub fn truck_placement(rows: &[Row], on: Block, keys: &mut [u64], along: &mut [u32]) -> Placement
     requires { TruckRows rows.now on × (on.end - on.start ≤ length keys.old) × (on.end - on.start ≤ length along.old) }
     ensures placed { PlacedRows rows.now on result }
     ensures lengths { (length keys.new ≡ length keys.old) × (length along.new ≡ length along.old) }
 {
-    order_by(rows, on, row::X, keys, along);
+    order_by(rows, on, |row| row.footprint.x, keys, along);
     Trailer { rows, on, along }.placement()
 }

@@ -16,12 +16,14 @@ use Rattle.rules.specs.declared.Rule.{Rule}
 use Rattle.rules.specs.declared.Rule.TheVariants.{OfStacks, OfPairs, OfTrucks}
 use Rattle.rules.specs.declared.ItemRule.{ItemRule}
 use Rattle.rules.specs.declared.ItemRule.TheVariants.{Plant, Product, Supplier, Day, Dock, Mixed, Turned}
+use Rattle.rules.specs.declared.OwnRule.{OwnRule}
+use Rattle.rules.specs.declared.OwnRule.TheVariants.{Docks, TopHeavy, TooMany, Dense, Outside}
 use Rattle.rules.specs.declared.StackRule.TheVariants.{EachItem, Own}
 use Rattle.rules.specs.LoadingRules.{item_test}
-use Rattle.stackrules.specs.StackRules.{every_item_test, OwnRulesKept, with_item}
+use Rattle.stackrules.specs.StackRules.{every_item_test, own_places, OwnRulesKept, with_item}
 
 -- ---- joined tests
-pub both : {a b : Bool} {P Q : Type 0} → (a ≡ true) ↔ P → (b ≡ true) ↔ Q → ((a && b) ≡ true) ↔ (P × Q)
+both : {a b : Bool} {P Q : Type 0} → (a ≡ true) ↔ P → (b ≡ true) ↔ Q → ((a && b) ≡ true) ↔ (P × Q)
 both {a} {b} p q = iff_trans (and_reads a b) (iff_both p q)
 
 -- a search that finds nothing
@@ -65,13 +67,30 @@ module _ (i : Instance) (s : Stack) (a : Item) where
       go p r u d k m t Mixed = m
       go p r u d k m t Turned = t
 
-  pub every_tested : {p r u d k m t : Bool} → p ≡ item_test Plant i s a → r ≡ item_test Product i s a → u ≡ item_test Supplier i s a → d ≡ item_test Day i s a
-      → k ≡ item_test Dock i s a → m ≡ item_test Mixed i s a → t ≡ item_test Turned i s a
-      → ((((((p && r) && u) && d) && k) && m) && t) ≡ every_item_test i s a
-  every_tested ep er eu ed ek em et = rw (ep, er, eu, ed, ek, em, et) refl
-
 -- ---- a stack by itself, and with an item
 module _ (i : Instance) (s : Stack) where
+  -- a search finds nothing exactly where a rule on the stack itself is kept
+  abbrev Tells : OwnRule → Bool → Type 0
+  Tells rule nothing = (nothing ≡ true) ↔ (own_places rule i s ≡ [])
+
+  pub own_told : {d t m h o : Bool} → Tells Docks d → Tells TopHeavy t → Tells TooMany m → Tells Dense h → Tells Outside o
+      → (((((d && t) && m) && h) && o) ≡ true) ↔ OwnRulesKept i s
+  own_told d t m h o =
+      iff_trans (both (both (both (both d t) m) h) o) (
+        (λ ((((d, t), m), h), o). go d t m h o),
+        (λ each. ((((each Docks, each TopHeavy), each TooMany), each Dense), each Outside)),
+      )
+    where
+      Kept : OwnRule → Type 0
+      Kept rule = own_places rule i s ≡ []
+
+      go : Kept Docks → Kept TopHeavy → Kept TooMany → Kept Dense → Kept Outside → OwnRulesKept i s
+      go d t m h o Docks = d
+      go d t m h o TopHeavy = t
+      go d t m h o TooMany = m
+      go d t m h o Dense = h
+      go d t m h o Outside = o
+
   none_broken : (n : ℕ) → OwnRulesKept i s → every_item_test i s (item i n) ≡ true → (rule : Rule) → with_item i s n rule ≡ []
   unfolding with_item
   none_broken n own each (OfStacks (EachItem rule)) = (unless_none _ _).1 (every_item i s (item i n) each rule)

@@ -6,14 +6,26 @@ use Rattle.meaning.specs.declared.Place.{Place}
 use Rattle.meaning.specs.Lists.{filter, only_if}
 use Rattle.meaning.specs.Places.{place}
 use Rattle.meaning.specs.Model.{Instance, Stack, Item, item, number}
+use Rattle.meaning.specs.Measures.{plant_dock_order}
 use Rattle.meaning.specs.Rules.{plant_matches, product_carried, supplier_visited, arrives_in_window, docks_served, stackable, orientation_kept, times_loaded}
+use Rattle.table.specs.Filled.{TruckNumber}
 use Rattle.search.specs.Lowest.{lowest_in, place_cmp}
+use Rattle.manifest.specs.declared.row.Row.{Row}
+use Rattle.manifest.specs.Manifest.{manifest_order, manifest_at, row_of, RowWithin}
 use Rattle.rules.specs.declared.Rule.{Rule}
 use Rattle.rules.specs.declared.Rule.TheVariants.{OfStacks, OfPairs, OfTrucks}
 use Rattle.rules.specs.declared.OwnRule.{OwnRule}
 use Rattle.rules.specs.declared.StackRule.TheVariants.{EachItem, Own}
 use Rattle.rules.specs.LoadingRules.{item_test, stack_rule_places, rule_places, on_stack, rule_count, rule_at}
 use Rattle.stackrules.specs.declared.Breach.{Breach}
+
+-- the row of the stack at place k of the manifest: it tells the stack's measures, and its numbers are those of one and of its truck
+pub record RowOfStack (i : Instance) (p : List Stack) (k : ℕ) (row : Row) : Type 0 where
+  pub is : row ≡ row_of i p (get_or (manifest_order p) k 0)
+  pub known : row.index < length p
+  pub on_truck : TruckNumber i row.truck
+  pub within : RowWithin row
+  pub few_docks : (n : ℕ) → plant_dock_order i (manifest_at p k) (item i n) ≤ 8
 
 -- when an item of a stack keeps every rule on items
 abbrev pub every_item_test : Instance → Stack → Item → Bool

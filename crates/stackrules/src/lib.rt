@@ -13,10 +13,10 @@ ghost use Rattle.rules.specs.declared.Rule.TheVariants.{OfStacks};
 ghost use Rattle.rules.specs.LoadingRules.{item_test, rule_count, rule_at};
 ghost use Rattle.manifest.specs.Manifest.{manifest_at};
 ghost use Rattle.stackrules.specs.StackRules.{every_item_test, own_places, OwnRulesKept, with_item, FirstOf, FirstOnStacks};
-ghost use Rattle.stackrules.specs.StackRules.{Countable, Counted, Tally};
+ghost use Rattle.stackrules.specs.StackRules.{RowOfStack, Countable, Counted, Tally};
 ghost use Rattle.table.specs.Held.{instance_of, stacks_of};
 
-use manifest::{Manifest, footprint_at, row, row_word, stack_at};
+use manifest::{Manifest, Row};
 use meaning::Place;
 use rules::{ItemRule, OwnRule, RULES, Rule, StackRule, rule_at};
 use search::{lower_of, place_if};
@@ -26,27 +26,19 @@ use table::fields::{
 };
 use table::{Table, clear, is_listed};
 use views::{
-    bottom_field, load_sum, plant_dock_order, read_size, stack_truck_field, supplier_dock_order,
+    StackLoad, bottom_field, plant_dock_order, stack_truck_field, supplier_dock_order,
     supplier_order,
 };
 
 // ---- 9, not once
 
-// Where an item's count stands.
-fn count_index(n: u32) -> usize
-    requires { 1 ≤ n }
-    ensures { (result + 1 ≡ n) × (result < 4294967296) }
-{
-    (n as usize) - 1
-}
-
-// Counts the items of a load, besides what was counted before.
+// Counts the items of a load, besides what was counted before. The count of item 1 comes first.
 fn count_load(items: &[u32], times: &mut [u32])
     requires { Countable items.now times.old }
     ensures { Counted items.now times.old times.new }
 {
     for n in items {
-        times[count_index(*n)] += 1;
+        times[*n as usize - 1] += 1;
     }
 }
 
@@ -189,20 +181,25 @@ fn item_keeps_rules(table: Table<'_>, s: usize, n: u32) -> bool
 
 // ---- the rules on the stack itself: 16 and 19 to 22. Each function answers where the stack at place k of the rows breaks its rule
 
+// The row of the stack at place k, with what the table has of it.
+fn stack_row(manifest: Manifest<'_>, k: usize) -> Row
+    requires { k < length (stacks_of manifest.table) }
+    ensures { RowOfStack (instance_of manifest.entry.table) (stacks_of manifest.entry.table) k result }
+{
+    manifest.rows[k]
+}
+
 // 16 docks, S2 and S3: one plant dock; where the truck's flag is set also two, if they are consecutive.
 fn docks_place(manifest: Manifest<'_>, k: usize) -> Option<Place>
     requires { k < length (stacks_of manifest.table) }
     ensures { result ≡ lowest_in (own_places OwnRule.Docks (instance_of manifest.entry.table) (manifest_at (stacks_of manifest.entry.table) k)) }
 {
-    let count = row_word(manifest.rows, k, row::PLANT_DOCKS);
-    let two_docks = manifest
-        .table
-        .truck_field(row_word(manifest.rows, k, row::TRUCK), TF)
-        == 1;
-    let after = row_word(manifest.rows, k, row::LOWEST) + 1;
-    let consecutive = (count == 2) & (after == row_word(manifest.rows, k, row::HIGHEST));
+    let row = stack_row(manifest, k);
+    let count = row.plant_docks;
+    let two_docks = manifest.table.truck_field(row.truck, TF) == 1;
+    let consecutive = (count == 2) & (row.rank.lowest + 1 == row.rank.highest);
     let allowed = (count <= 1) | (two_docks & consecutive);
-    place_if(!allowed, row_word(manifest.rows, k, row::NUMBER), count, 0)
+    place_if(!allowed, row.number, count, 0)
 }
 
 // 19 top heavy, S5: the weight above the bottom item is within the truck's limit.
@@ -210,13 +207,14 @@ fn top_heavy_place(manifest: Manifest<'_>, k: usize) -> Option<Place>
     requires { k < length (stacks_of manifest.table) }
     ensures { result ≡ lowest_in (own_places OwnRule.TopHeavy (instance_of manifest.entry.table) (manifest_at (stacks_of manifest.entry.table) k)) }
 {
-    let items = manifest.table.load(stack_at(manifest.rows, k));
-    let above = load_sum(manifest.table, items, 1, IM);
-    let within = above
-        <= manifest
-            .table
-            .truck_field(row_word(manifest.rows, k, row::TRUCK), TOP_LIMIT);
-    place_if(!within, row_word(manifest.rows, k, row::NUMBER), above, 0)
+    let row = stack_row(manifest, k);
+    let load = StackLoad {
+        table: manifest.table,
+        items: manifest.table.load(row.index as usize),
+    };
+    let above = load.sum(1, IM);
+    let within = above <= manifest.table.truck_field(row.truck, TOP_LIMIT);
+    place_if(!within, row.number, above, 0)
 }
 
 // 20 too many, S6: no more items than the maximal stackability.
@@ -224,10 +222,11 @@ fn too_many_place(manifest: Manifest<'_>, k: usize) -> Option<Place>
     requires { k < length (stacks_of manifest.table) }
     ensures { result ≡ lowest_in (own_places OwnRule.TooMany (instance_of manifest.entry.table) (manifest_at (stacks_of manifest.entry.table) k)) }
 {
-    let items = manifest.table.load(stack_at(manifest.rows, k));
+    let row = stack_row(manifest, k);
+    let items = manifest.table.load(row.index as usize);
     let count = items.len() as u32;
     let within = count <= manifest.table.item_field(items[0], ISM);
-    place_if(!within, row_word(manifest.rows, k, row::NUMBER), count, 0)
+    place_if(!within, row.number, count, 0)
 }
 
 // Whether a stack of this weight in kilograms keeps the density limit, in kilograms per square metre, on this ground in square millimetres.
@@ -243,18 +242,13 @@ fn dense_place(manifest: Manifest<'_>, k: usize) -> Option<Place>
     requires { k < length (stacks_of manifest.table) }
     ensures { result ≡ lowest_in (own_places OwnRule.Dense (instance_of manifest.entry.table) (manifest_at (stacks_of manifest.entry.table) k)) }
 {
-    let s = stack_at(manifest.rows, k);
-    let weight = row_word(manifest.rows, k, row::WEIGHT);
-    let limit = manifest
-        .table
-        .truck_field(row_word(manifest.rows, k, row::TRUCK), TEM);
-    let kept = density_kept(
-        weight,
-        limit,
-        bottom_field(manifest.table, s, IL),
-        bottom_field(manifest.table, s, IW),
-    );
-    place_if(!kept, row_word(manifest.rows, k, row::NUMBER), weight, 0)
+    let row = stack_row(manifest, k);
+    let s = row.index as usize;
+    let length = bottom_field(manifest.table, s, IL);
+    let width = bottom_field(manifest.table, s, IW);
+    let limit = manifest.table.truck_field(row.truck, TEM);
+    let kept = density_kept(row.weight, limit, length, width);
+    place_if(!kept, row.number, row.weight, 0)
 }
 
 // The lowest dimension that does not fit: 1 length, 2 width, 3 height. The two tests say whether length and width fit.
@@ -275,19 +269,18 @@ fn outside_place(manifest: Manifest<'_>, k: usize) -> Option<Place>
     requires { k < length (stacks_of manifest.table) }
     ensures { result ≡ lowest_in (own_places OwnRule.Outside (instance_of manifest.entry.table) (manifest_at (stacks_of manifest.entry.table) k)) }
 {
-    let number = row_word(manifest.rows, k, row::NUMBER);
-    let truck = row_word(manifest.rows, k, row::TRUCK);
-    let ground = footprint_at(manifest.rows, k);
-    let size = read_size(
-        manifest.table,
-        manifest.table.load(stack_at(manifest.rows, k)),
-    );
-    let within_length = ground.xe <= manifest.table.truck_field(truck, TL);
-    let within_width = ground.ye <= manifest.table.truck_field(truck, TW);
-    let within_height = size.height <= manifest.table.truck_field(truck, TH);
+    let row = stack_row(manifest, k);
+    let load = StackLoad {
+        table: manifest.table,
+        items: manifest.table.load(row.index as usize),
+    };
+    let size = load.size();
+    let within_length = row.footprint.xe <= manifest.table.truck_field(row.truck, TL);
+    let within_width = row.footprint.ye <= manifest.table.truck_field(row.truck, TW);
+    let within_height = size.height <= manifest.table.truck_field(row.truck, TH);
     let inside = (within_length & within_width) & within_height;
     let side = exceeded_side(within_length, within_width);
-    place_if(!inside, number, side, 0)
+    place_if(!inside, row.number, side, 0)
 }
 
 // Where the stack at place k breaks a rule on itself.
@@ -334,8 +327,9 @@ fn stack_place(rule: StackRule, manifest: Manifest<'_>, k: usize, n: u32) -> Opt
 {
     match rule {
         StackRule::EachItem(each) => {
-            let kept = item_kept(each, manifest.table, stack_at(manifest.rows, k), n);
-            place_if(!kept, row_word(manifest.rows, k, row::NUMBER), n, 0)
+            let row = stack_row(manifest, k);
+            let kept = item_kept(each, manifest.table, row.index as usize, n);
+            place_if(!kept, row.number, n, 0)
         }
         StackRule::Own(own) => own_place(own, manifest, k),
     }
@@ -374,7 +368,7 @@ fn stack_breach(manifest: Manifest<'_>, k: usize) -> Option<Breach>
     ensures { FirstOnStacks (instance_of manifest.entry.table) (manifest_at (stacks_of manifest.entry.table) k ∷ []) result }
 {
     let own = own_rules_kept(manifest, k);
-    let s = stack_at(manifest.rows, k);
+    let s = stack_row(manifest, k).index as usize;
     let items = manifest.table.load(s);
     let mut first = None;
     for j in (0..items.len()).rev() {

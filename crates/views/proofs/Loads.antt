@@ -5,23 +5,22 @@ use mathlib.Core.List.{List, ◌∷◌, map}
 use Prim.Native.Nat.{ℕ, ◌+◌, ◌-◌, ◌*◌, ◌≤◌, ◌<◌}
 use native.Mathlib.Nat.{le_trans, mul-le-mul_left}
 use native.Mathlib.Numerals.{add-one}
-use native.Mathlib.Omega.{arith}
-use borrow.Author.Tests.{leb-true, eq-eqb, ne_eqb}
-use lib.Dec.{leb, eqb}
+use Rattle.std.proofs.Common.{add_assoc, arith}
+use borrow.Author.Tests.{eq-eqb, ne_eqb}
+use lib.Dec.{eqb}
 use lib.ListN.{length, get_or, take, drop, drop_of_length-le}
 use Rattle.std.proofs.lemmas.List.{length-drop, get_or-drop}
 use Rattle.std.proofs.Math.Seq.{take-length}
-use Rattle.meaning.specs.Lists.{all, any, sum, dedup, listed, order_in, up_from}
+use Rattle.meaning.specs.Lists.{any, sum, dedup, listed, order_in}
 use Rattle.meaning.specs.Model.{Instance, item, truck_numbered, IG}
 use Rattle.meaning.specs.Measures.{plant_docks_of}
 use Rattle.meaning.specs.Rules.{plant_dock_count}
-use Rattle.meaning.proofs.Lists.{all_reads, drop_next, Down, down_start, down_more, down_end, in_up_from}
-use Rattle.table.specs.Filled.{item_most}
+use Rattle.meaning.proofs.Lists.{drop_next, Down, down_start, down_more, down_end}
 use Rattle.views.specs.declared.OrderRange.{OrderRange}
 use Rattle.views.specs.Views.{load_only, range_with, range_of, plant_dock_orders, plant_docks_from}
 
 -- an entry of the part of a load from a place on
-pub entry_from : (l : List ℕ) (from k : ℕ) → get_or (take (length l - from) (drop from l)) k 0 ≡ get_or l (from + k) 0
+entry_from : (l : List ℕ) (from k : ℕ) → get_or (take (length l - from) (drop from l)) k 0 ≡ get_or l (from + k) 0
 entry_from l from k = rw (← length-drop from l, take-length (drop from l)) (get_or-drop from l k 0)
 
 -- ---- a sum, on the way up
@@ -31,19 +30,15 @@ pub record Summed (g : ℕ → ℕ) (most : ℕ) (l : List ℕ) (from total j : 
   pub few : total ≤ most * j
 
 module _ {g : ℕ → ℕ} {most : ℕ} {l : List ℕ} {from : ℕ} where
-  pub summed_start : from ≤ length l → Summed g most l from 0 from
-  summed_start h = record { upto = h; rest = omega arith; few = omega arith }
-
-  pub summed_more : {total j r : ℕ} → Summed g most l from total j → j < length l → r ≡ g (get_or l j 0) → r ≤ most
-      → Summed g most l from (total + r) (j + 1)
+  pub summed_more : (k : ℕ) {total r : ℕ} → Summed g most l from total (from + k) → from + k < length l
+      → r ≡ g (get_or (take (length l - from) (drop from l)) k 0) → r ≤ most → Summed g most l from (total + r) (from + (k + 1))
   unfolding sum
-  summed_more {j = j} h k e b =
-      let next = ap (sum g) (drop_next l j 0 k) in
-      record { upto = omega arith; rest = omega (arith, next, e, h.rest); few = omega (arith, h.few) }
-
-  -- a sum over a load stays far below the largest word
-  pub summed_room : {total j r : ℕ} → Summed g most l from total j → j ≤ 64 → r ≤ most → most ≤ 100000 → total + r ≤ 6500000
-  summed_room {total} {j} {r} h k b z = omega (arith, h.few, mul-le-mul_left most k)
+  summed_more k {total} {r} h more e b =
+      let next = ap (sum g) (drop_next l (from + k) 0 more) in
+      let one : Summed g most l from (total + r) (from + k + 1) =
+      record { upto = omega arith; rest = omega (arith, next, rw (entry_from l from k) at e, h.rest); few = omega (arith, h.few) }
+      in
+      rw (← add_assoc from k 1) one
 
   pub summed_end : {total j : ℕ} → Summed g most l from total j → length l ≤ j → length l ≤ 64 → (total ≡ sum g (drop from l)) × (total ≤ most * 64)
   unfolding sum
@@ -51,11 +46,6 @@ module _ {g : ℕ → ℕ} {most : ℕ} {l : List ℕ} {from : ℕ} where
       let m : j ≤ 64 = omega (arith, h.upto) in
       let none : sum g (drop j l) ≡ 0 = rw (drop_of_length-le l k) refl in
       (omega (arith, h.rest, none), le_trans h.few (mul-le-mul_left most m))
-
--- of an item's fields the daily cost ends highest
-pub item_ends : (f : ℕ) → f < 16 → item_most f ≤ 100000
-unfolding all up_from
-item_ends f h = leb-true _ _ ((all_reads (λ k. leb (item_most k) 100000) (up_from 0 16)).0 refl f ((in_up_from 0 16 f).1 (omega arith, omega arith)))
 
 -- ---- the search for a plant dock, on the way up
 pub record Passed (i : Instance) (load : List ℕ) (dock from j : ℕ) : Type 0 where
@@ -66,14 +56,23 @@ module _ {i : Instance} {load : List ℕ} {dock from : ℕ} where
   pub passed_start : from ≤ length load → Passed i load dock from from
   passed_start h = record { upto = h; rest = refl }
 
-  module _ {j r : ℕ} (h : Passed i load dock from j) (k : j < length load) (e : r ≡ IG (item i (get_or load j 0))) where
+  module _ (k : ℕ) {r : ℕ} (h : Passed i load dock from (from + k)) (more : from + k < length load)
+      (e : r ≡ IG (item i (get_or (take (length load - from) (drop from load)) k 0))) where
+    its_plant_dock : r ≡ IG (item i (get_or load (from + k) 0))
+    its_plant_dock = rw (entry_from load from k) at e
+
     pub passed_found : r ≡ dock → true ≡ listed dock (plant_docks_from i load from)
     unfolding plant_docks_from any
-    passed_found t = sym (rw (drop_next load j 0 k) (simp (eq-eqb dock _ (sym t ∙ e)))) ∙ h.rest
+    passed_found t = sym (rw (drop_next load (from + k) 0 more) (simp (eq-eqb dock _ (sym t ∙ its_plant_dock)))) ∙ h.rest
 
-    pub passed_more : (r ≡ dock → ⊥) → Passed i load dock from (j + 1)
+    pub passed_more : (r ≡ dock → ⊥) → Passed i load dock from (from + (k + 1))
     unfolding plant_docks_from any
-    passed_more t = record { upto = omega arith; rest = sym (rw (drop_next load j 0 k) (simp (ne_eqb dock _ (λ q. t (e ∙ sym q))))) ∙ h.rest }
+    passed_more t =
+        let other = ne_eqb dock _ (λ q. t (its_plant_dock ∙ sym q)) in
+        let one : Passed i load dock from (from + k + 1) =
+        record { upto = omega arith; rest = sym (rw (drop_next load (from + k) 0 more) (simp other)) ∙ h.rest }
+        in
+        rw (← add_assoc from k 1) one
 
   pub passed_end : {j : ℕ} → Passed i load dock from j → length load ≤ j → false ≡ listed dock (plant_docks_from i load from)
   unfolding plant_docks_from any
@@ -121,11 +120,13 @@ module _ {i : Instance} {load : List ℕ} where
   unfolding docks_over dedup
   counted_start e = record { down = down_start e refl; few = omega arith }
 
-  -- `later` says whether an item from j on has the dock of the item before
+  -- `later` says whether an item behind place j - 1 has the dock of the item there
   module _ {j dock count : ℕ} {later : Bool} (h : Counted i load j count) (k : 0 < j) (ed : dock ≡ IG (item i (get_or load (j - 1) 0)))
-      (el : later ≡ listed dock (plant_docks_from i load j)) where
+      (el : later ≡ listed dock (plant_docks_from i load (j - 1 + 1))) where
     its_dock : listed (IG (item i (get_or load (j - 1) 0))) (plant_docks_from i load j) ≡ later
-    its_dock = sym (el ∙ ap (λ n. listed n (plant_docks_from i load j)) ed)
+    its_dock =
+        let back : j - 1 + 1 ≡ j = omega arith in
+        sym (rw back at el ∙ ap (λ n. listed n (plant_docks_from i load j)) ed)
 
     pub counted_new : later ≡ false → Counted i load (j - 1) (count + 1)
     unfolding docks_over plant_docks_from

@@ -1,26 +1,21 @@
 -- What the views of a stack are made of, read by read.
-use mathlib.Core.Path.{◌≡◌, refl, sym, ◌∙◌}
-use mathlib.Core.Bool.{cond}
+use mathlib.Core.Path.{◌≡◌, refl}
 use mathlib.Core.List.{List, [], ◌∷◌}
-use Prim.Native.Nat.{ℕ, ◌≤◌, ◌<◌}
+use Prim.Native.Nat.{ℕ, ◌≤◌}
 use native.Mathlib.Omega.{arith}
-use borrow.Author.Tests.{lt-ltb, le-ltb}
-use lib.Dec.{ltb}
 use lib.ListN.{length, get_or, drop}
 use Rattle.meaning.specs.declared.Limits.{Limits}
 use Rattle.meaning.specs.Lists.{sum, order_in, order_from}
-use Rattle.meaning.specs.Model.{Instance, Truck, Stack, item, IH, nesting}
+use Rattle.meaning.specs.Model.{Instance, Stack, item, IH, nesting}
 use Rattle.meaning.specs.Measures.{sm, height, plant_docks_of}
 use Rattle.meaning.specs.Rules.{plant_dock_count}
 use Rattle.meaning.specs.Table.{instance_in}
 use Rattle.meaning.proofs.Lists.{in_at}
 use Rattle.meaning.proofs.Fields.{item_within}
 use Rattle.meaning.proofs.Sums.{sum_below, sum_drop}
-use Rattle.meaning.proofs.Orders.{list_at}
-use Rattle.table.specs.Filled.{Filled, LoadOfItems, ItemNumber, docks_at_order}
+use Rattle.table.specs.Filled.{Filled, LoadOfItems, ItemNumber}
 use Rattle.table.proofs.Access.{item_in}
-use Rattle.views.specs.declared.OrderRange.{OrderRange}
-use Rattle.views.specs.Views.{load_only, size_of, range_with}
+use Rattle.views.specs.Views.{load_only, size_of}
 
 -- ---- heights: no item nests deeper than it is high
 pub nested_less : {m : Limits} {t load : List ℕ} → Filled m t → LoadOfItems (instance_in m t) load → {heights nested : ℕ}
@@ -51,18 +46,3 @@ order_is v e few er most = rw (← e) (er, most, omega arith)
 pub dock_unlisted : (docks : List (List ℕ)) (dock : ℕ) {place : ℕ} → place ≡ 0 → 0 ≡ order_in (get_or ([] ∷ docks) place []) dock
 unfolding order_from
 dock_unlisted docks dock e = rw e refl
-
-pub docks_listed : (a : Truck) {place : ℕ} → 0 < place → {list : List ℕ} → list ≡ docks_at_order a place → list ≡ get_or ([] ∷ a.docks) place []
-docks_listed a {place} h e = e ∙ sym (list_at a.docks place h)
-
--- ---- the range with one loading order more
-module _ (a b v w : ℕ) {r : ℕ} where
-  pub when_below : a < b → r ≡ v → r ≡ cond (ltb a b) v w
-  when_below h e = rw (lt-ltb a b h) e
-
-  pub when_not : b ≤ a → r ≡ w → r ≡ cond (ltb a b) v w
-  when_not h e = rw (le-ltb a b h) e
-
-pub range_is : (range : OrderRange) (order : ℕ) {low high : ℕ} → low ≡ cond (ltb order range.lowest) order range.lowest
-    → high ≡ cond (ltb range.highest order) order range.highest → ◌≡◌ {A = OrderRange} (record { lowest = low; highest = high }) (range_with order range)
-range_is range order el eh = rw (el, eh) refl

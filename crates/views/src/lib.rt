@@ -7,12 +7,16 @@ ghost use Rattle.meaning.specs.Lists.{sum, listed, order_in};
 ghost use Rattle.meaning.specs.Model.{item, truck_of, truck_numbered, IL, IW, IG, IU, IK};
 ghost use Rattle.meaning.specs.Measures.{bottom, docks_of};
 ghost use Rattle.meaning.specs.Rules.{plant_dock_count};
-ghost use Rattle.table.specs.Filled.{LoadOfItems, stack_at, ItemNumber, TruckNumber, item_most, truck_most};
+ghost use Rattle.table.specs.Filled.{stack_at, ItemNumber, TruckNumber, item_most, truck_most};
 ghost use Rattle.views.specs.Views.{position_of, PositionInRange, extent_of, footprint_from, size_of, load_only};
 ghost use Rattle.views.specs.Views.{plant_dock_orders, range_with, range_of, rank_of, plant_docks_from};
 ghost use Rattle.table.specs.Held.{instance_of, stacks_of};
 
 use table::{Table, fields, order_in};
+
+pub mod loaded;
+
+pub use loaded::StackLoad;
 
 // Where a stack stands, and which way it is turned.
 #[derive(Clone, Copy)]
@@ -93,7 +97,7 @@ pub fn read_position(table: Table<'_>, s: usize) -> Position
 // ---- the ground
 
 // How far a stack reaches along the trailer and across it, by length and width of its bottom item. No other function knows what an
-// orientation means.
+// orientation means, so it stays the file's number (document 01), which the ranges keep 1 or 2: an enum would be made and matched here alone.
 fn extent_of(length: u32, width: u32, orientation: u32) -> Extent
     requires { (1 ≤ orientation) × (orientation ≤ 2) }
     ensures { result ≡ extent_of length width orientation }
@@ -124,47 +128,6 @@ fn footprint_from(position: Position, length: u32, width: u32) -> Footprint
     }
 }
 
-// The ground of a stack, by its position and its load.
-pub fn read_footprint(table: Table<'_>, position: Position, load: &[u32]) -> Footprint
-    requires { LoadOfItems (instance_of table) load.now × PositionInRange position }
-    ensures { result ≡ footprint_from position (IL (item (instance_of table.entry) (get_or load.now 0 0)))
-        (IW (item (instance_of table.entry) (get_or load.now 0 0))) }
-{
-    let bottom = load[0];
-    let length = table.item_field(bottom, fields::IL);
-    let width = table.item_field(bottom, fields::IW);
-    footprint_from(position, length, width)
-}
-
-// ---- weight and height
-
-// The sum of a field over the items of a load: all of them from 0, those above the bottom item from 1.
-pub fn load_sum(table: Table<'_>, load: &[u32], from: usize, field: usize) -> u32
-    requires { LoadOfItems (instance_of table) load.now × (from ≤ 1) × (field < 16) }
-    ensures { (result ≡ sum (λ n. get_or (item (instance_of table.entry) n) field 0) (drop from load.now))
-        × (result ≤ item_most field * 64) }
-{
-    let mut sum: u32 = 0;
-    for n in &load[from..] {
-        sum += table.item_field(*n, field);
-    }
-    sum
-}
-
-// The weight and the height of a load. Each item but the bottom one sinks by its nesting height into the one below it.
-pub fn read_size(table: Table<'_>, load: &[u32]) -> Size
-    requires { LoadOfItems (instance_of table) load.now }
-    ensures { result ≡ size_of (instance_of table.entry) load.now }
-{
-    let weight = load_sum(table, load, 0, fields::IM);
-    let heights = load_sum(table, load, 0, fields::IH);
-    let nested = load_sum(table, load, 1, fields::NESTING);
-    Size {
-        weight,
-        height: heights - nested,
-    }
-}
-
 // ---- loading orders on a truck; 0 for what is not listed
 
 // The loading order of a supplier.
@@ -176,7 +139,8 @@ pub fn supplier_order(table: Table<'_>, truck: u32, supplier: u32) -> usize
     order_in(table.suppliers(truck), supplier)
 }
 
-// The loading order of a dock among the docks of a supplier, who is given by the loading order.
+// The loading order of a dock among the docks of a supplier, who is given by the loading order. What is not listed has the order 0, and not
+// none: that is its loading order in the rules, which compare with it (decision 13 in docs/DECISIONS.md).
 fn dock_order(table: Table<'_>, truck: u32, supplier: usize, dock: u32) -> usize
     requires { TruckNumber (instance_of table) truck × (supplier ≤ length (truck_numbered (instance_of table) truck).suppliers) }
     ensures { (result ≡ order_in (get_or ([] ∷ (truck_numbered (instance_of table.entry) truck).docks) supplier []) dock)
@@ -227,67 +191,108 @@ fn including(range: OrderRange, order: u32) -> OrderRange
     }
 }
 
-// The range of the plant dock orders of a load's items.
-fn plant_dock_range(table: Table<'_>, truck: u32, load: &[u32]) -> OrderRange
-    requires { TruckNumber (instance_of table) truck × LoadOfItems (instance_of table) load.now }
-    ensures { result ≡ range_of (plant_dock_orders (instance_of table.entry) truck load.now) }
-{
-    let docks = table.plant_docks(truck);
-    let mut range = OrderRange {
-        lowest: MOST_PLANT_DOCKS,
-        highest: 0,
-    };
-    for j in (0..load.len()).rev() {
-        let order = order_in(docks, table.item_field(load[j], fields::IG));
-        range = including(range, order as u32);
-    }
-    range
-}
+// ---- what a load tells
 
-// The rank of a stack in the loading order, by its truck's number and its load.
-pub fn read_rank(table: Table<'_>, truck: u32, load: &[u32]) -> Rank
-    requires { TruckNumber (instance_of table) truck × LoadOfItems (instance_of table) load.now }
-    ensures { result ≡ rank_of (instance_of table.entry) truck load.now }
-{
-    let bottom = load[0];
-    let supplier = table.item_field(bottom, fields::IU);
-    let dock = table.item_field(bottom, fields::IK);
-    let order = supplier_order(table, truck, supplier);
-    let range = plant_dock_range(table, truck, load);
-    Rank {
-        supplier,
-        dock,
-        supplier_order: order as u32,
-        dock_order: dock_order(table, truck, order, dock) as u32,
-        lowest: range.lowest,
-        highest: range.highest,
+impl<'a> StackLoad<'a> {
+    // The ground of a stack with this load, by its position.
+    pub fn footprint(self, position: Position) -> Footprint
+        requires { PositionInRange position }
+        ensures { result ≡ footprint_from position (IL (item (instance_of self.entry.table) (get_or self.entry.items.now 0 0)))
+            (IW (item (instance_of self.entry.table) (get_or self.entry.items.now 0 0))) }
+    {
+        let bottom = self.items[0];
+        let length = self.table.item_field(bottom, fields::IL);
+        let width = self.table.item_field(bottom, fields::IW);
+        footprint_from(position, length, width)
     }
-}
 
-// Whether an item of a load, from place `from` on, has this plant dock.
-fn has_plant_dock(table: Table<'_>, load: &[u32], from: usize, dock: u32) -> bool
-    requires { LoadOfItems (instance_of table) load.now × (from ≤ length load.now) }
-    ensures { result ≡ listed dock (plant_docks_from (instance_of table.entry) load.now from) }
-{
-    for n in &load[from..] {
-        if table.item_field(*n, fields::IG) == dock {
-            return true;
+    // The sum of a field over the items: all of them from 0, those above the bottom item from 1.
+    pub fn sum(self, from: usize, field: usize) -> u32
+        requires { (from ≤ 1) × (field < 16) }
+        ensures { (result ≡ sum (λ n. get_or (item (instance_of self.entry.table) n) field 0) (drop from self.entry.items.now))
+            × (result ≤ item_most field * 64) }
+    {
+        let mut sum: u32 = 0;
+        for n in &self.items[from..] {
+            sum += self.table.item_field(*n, field);
+        }
+        sum
+    }
+
+    // The weight and the height. Each item but the bottom one sinks by its nesting height into the one below it.
+    pub fn size(self) -> Size
+        ensures { result ≡ size_of (instance_of self.entry.table) self.entry.items.now }
+    {
+        let weight = self.sum(0, fields::IM);
+        let heights = self.sum(0, fields::IH);
+        let nested = self.sum(1, fields::NESTING);
+        Size {
+            weight,
+            height: heights - nested,
         }
     }
-    false
-}
 
-// How many plant docks a load has. A dock is counted at the last item that has it.
-pub fn plant_dock_count(table: Table<'_>, load: &[u32]) -> u32
-    requires { LoadOfItems (instance_of table) load.now }
-    ensures { (result ≡ plant_dock_count (instance_of table.entry) (load_only load.now)) × (result ≤ 64) }
-{
-    let mut count: u32 = 0;
-    for j in (0..load.len()).rev() {
-        let dock = table.item_field(load[j], fields::IG);
-        if !has_plant_dock(table, load, j + 1, dock) {
-            count += 1;
+    // The range of the plant dock orders of the items on a truck.
+    fn plant_dock_range(self, truck: u32) -> OrderRange
+        requires { TruckNumber (instance_of self.table) truck }
+        ensures { result ≡ range_of (plant_dock_orders (instance_of self.entry.table) truck self.entry.items.now) }
+    {
+        let docks = self.table.plant_docks(truck);
+        let mut range = OrderRange {
+            lowest: MOST_PLANT_DOCKS,
+            highest: 0,
+        };
+        for j in (0..self.items.len()).rev() {
+            let order = order_in(docks, self.table.item_field(self.items[j], fields::IG));
+            range = including(range, order as u32);
+        }
+        range
+    }
+
+    // The rank in the loading order of a stack with this load, by its truck's number.
+    pub fn rank(self, truck: u32) -> Rank
+        requires { TruckNumber (instance_of self.table) truck }
+        ensures { result ≡ rank_of (instance_of self.entry.table) truck self.entry.items.now }
+    {
+        let bottom = self.items[0];
+        let supplier = self.table.item_field(bottom, fields::IU);
+        let dock = self.table.item_field(bottom, fields::IK);
+        let order = supplier_order(self.table, truck, supplier);
+        let range = self.plant_dock_range(truck);
+        Rank {
+            supplier,
+            dock,
+            supplier_order: order as u32,
+            dock_order: dock_order(self.table, truck, order, dock) as u32,
+            lowest: range.lowest,
+            highest: range.highest,
         }
     }
-    count
+
+    // Whether an item from place `from` on has this plant dock.
+    fn has_plant_dock(self, from: usize, dock: u32) -> bool
+        requires { from ≤ length self.items.now }
+        ensures { result ≡ listed dock (plant_docks_from (instance_of self.entry.table) self.entry.items.now from) }
+    {
+        for n in &self.items[from..] {
+            if self.table.item_field(*n, fields::IG) == dock {
+                return true;
+            }
+        }
+        false
+    }
+
+    // How many plant docks there are. A dock is counted at the last item that has it.
+    pub fn plant_dock_count(self) -> u32
+        ensures { (result ≡ plant_dock_count (instance_of self.entry.table) (load_only self.entry.items.now)) × (result ≤ 64) }
+    {
+        let mut count: u32 = 0;
+        for j in (0..self.items.len()).rev() {
+            let dock = self.table.item_field(self.items[j], fields::IG);
+            if !self.has_plant_dock(j + 1, dock) {
+                count += 1;
+            }
+        }
+        count
+    }
 }

@@ -6,7 +6,7 @@ use Rattle.pairrules.proofs.pair_kept.Goals as goal
 pub returns-in-Overlap : goal.returns-in-Overlap
 returns-in-Overlap c =
     rw c.in-Overlap.is
-    (c.disjoint.ensures ∙ rw (c.footprint_at.ensures, c.footprint_at-in-Overlap.ensures) (disjoint_is c.args.manifest.holds _ _ c.requires.0 c.requires.1))
+    (c.disjoint.ensures ∙ disjoint_is c.args.manifest.holds _ _ c.requires.0 c.requires.1)
 
 pub returns-in-Order : goal.returns-in-Order
 returns-in-Order c = rw c.in-Order.is (c.in_loading_order.ensures ∙ order_is c.args.manifest.holds _ _ c.requires.0 c.requires.1)

@@ -2,13 +2,13 @@
 use mathlib.Core.Path.{◌≡◌, refl}
 use Prim.Native.Nat.{◌+◌, ◌-◌}
 use native.Mathlib.Omega.{arith}
-use Rattle.meaning.specs.Table.{stacks_in}
+use Rattle.table.specs.Held.{stacks_of}
 use Rattle.stackrules.proofs.Tally.{tally_none, tally_more, countable}
 use Rattle.stackrules.proofs.count_items.Goals as goal
 
 pub loop-s-init : goal.loop-s-init
 loop-s-init c =
-    let p = stacks_in c.args.table.named.limits c.args.table.named.words.now in
+    let p = stacks_of c.args.table in
     (omega arith, refl, tally_none p c.requires c.clear.ensures c.stack_count-s.ensures.0)
 
 pub count_load-requires : goal.count_load-requires
@@ -16,7 +16,7 @@ count_load-requires c = countable c.loop-s.s c.args.table.filled c.load.ensures.
 
 pub loop-s-preserved : goal.loop-s-preserved
 loop-s-preserved c =
-    let p = stacks_in c.args.table.named.limits c.args.table.named.words.now in
+    let p = stacks_of c.args.table in
     let back : c.loop-s.s - 1 + 1 ≡ c.loop-s.s = omega arith in (
       omega arith,
       omega arith,

@@ -1,5 +1,5 @@
 -- `stackrules::lowest_not_once`: of the items behind `at` the lowest place is kept; the words of the counts say how often each item is loaded.
-use Rattle.meaning.specs.Table.{instance_in, stacks_in}
+use Rattle.table.specs.Held.{instance_of, stacks_of}
 use Rattle.stackrules.proofs.Tally.{above_none, above_more, above_end}
 use Rattle.stackrules.proofs.lowest_not_once.Goals as goal
 
@@ -8,8 +8,8 @@ loop-at-preserved c = above_more c.loop-at.invariant c.loop-at-test.true c.place
 
 pub returns : goal.returns
 returns c =
-    let i = instance_in c.args.table.named.limits c.args.table.named.words.now in
-    above_end i (stacks_in c.args.table.named.limits c.args.table.named.words.now) c.loop-at.invariant c.loop-at-test.false c.item_count-at.ensures.0 c.count_items.ensures
+    let i = instance_of c.args.table in
+    above_end i (stacks_of c.args.table) c.loop-at.invariant c.loop-at-test.false c.item_count-at.ensures.0 c.count_items.ensures
 
 pub loop-at-init : goal.loop-at-init
 loop-at-init c = above_none

@@ -1,14 +1,10 @@
 -- `stackrules::stack_breach`: the breach so far is that of the items from the top down, in the end of the whole stack.
 use mathlib.Core.Path.{refl}
-use borrow.Author.Rules.{rules}
 use Rattle.stackrules.proofs.Items.{load_places}
-use Rattle.stackrules.proofs.Stacks.{stack_there, stack_same}
+use Rattle.stackrules.proofs.Stacks.{stack_same}
 use Rattle.stackrules.proofs.Kept.{all_kept_lem}
 use Rattle.stackrules.proofs.First.{from_none, from_more, from_kept, from_end, first_same}
 use Rattle.stackrules.proofs.stack_breach.Goals as goal
-
-pub load-items-requires : goal.load-items-requires
-load-items-requires c = search (rules, stack_there)
 
 pub loop-j-init : goal.loop-j-init
 loop-j-init c = from_none refl
@@ -18,11 +14,11 @@ loop-j-preserved-then-not-own-item_keeps_rules c = from_more 0 c.loop-j.invarian
 
 pub loop-j-preserved : goal.loop-j-preserved
 loop-j-preserved c =
-    let same = stack_same c.args.manifest.holds c.requires c.stack_at-s.ensures in
+    let same = stack_same c.stack_row-s.ensures in
     from_kept 0 c.loop-j.invariant c.loop-j-test.true
     (all_kept_lem _ _ _ same c.own_rules_kept-own.ensures c.item_keeps_rules.ensures c.if-not-own-item_keeps_rules.false)
 
 pub returns : goal.returns
 returns c =
-    let same = stack_same c.args.manifest.holds c.requires c.stack_at-s.ensures in
+    let same = stack_same c.stack_row-s.ensures in
     first_same (from_end c.loop-j.invariant c.loop-j-test.false) (load_places _ _ (rw (← same) c.load-items.ensures.0) c.load-items.ensures.1.some)

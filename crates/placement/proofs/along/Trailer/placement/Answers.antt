@@ -1,25 +1,25 @@
 -- `Trailer::placement`: the stacks are taken from the last along the trailer to the first; then the order is asked, where no two overlap.
-use native.Mathlib.Omega.{arith}
-use Rattle.placement.proofs.Trailer.{nth_room}
+use mathlib.Core.Path.{refl, ap}
+use Rattle.manifest.specs.declared.row.Row.{Row}
 use Rattle.placement.proofs.Walk.{next_inside, placed_start, clear_asked, overlap_known, placed_apart, placed_overlap}
 use Rattle.placement.proofs.along.Trailer.placement.Goals as goal
 
 pub loop-k-init : goal.loop-k-init
 loop-k-init c = placed_start c.args.self.sorted
 
-pub row_word-number-requires : goal.row_word-number-requires
-row_word-number-requires c = (rw c.place.ensures (nth_room c.loop-k.invariant.held _ (next_inside c.loop-k.invariant c.loop-k-test.true)), omega arith)
+pub row-requires : goal.row-requires
+row-requires c = next_inside c.loop-k.invariant c.loop-k-test.true
 
 pub loop-k-preserved-then-apart : goal.loop-k-preserved-then-apart
 loop-k-preserved-then-apart c =
     clear_asked c.loop-k.invariant c.loop-k-test.true
-    c.place.ensures c.row_word-number.ensures c.is_braced.ensures
+    refl (ap (λ (r : Row). r.number) c.row.ensures) c.is_braced.ensures
     c.place_if-here.ensures c.lower_of-unbraced.ensures c.if-apart.true c.is_clear-apart.ensures
 
 pub loop-k-preserved : goal.loop-k-preserved
 loop-k-preserved c =
     overlap_known c.loop-k.invariant c.loop-k-test.true
-    c.place.ensures c.row_word-number.ensures c.is_braced.ensures
+    refl (ap (λ (r : Row). r.number) c.row.ensures) c.is_braced.ensures
     c.place_if-here.ensures c.lower_of-unbraced.ensures c.if-apart.false
 
 pub returns-then-apart-2 : goal.returns-then-apart-2

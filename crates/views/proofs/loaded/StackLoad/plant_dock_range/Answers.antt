@@ -1,8 +1,8 @@
--- `views::plant_dock_range`: the range of the items from `j` on, as its definition has it.
+-- `StackLoad::plant_dock_range`: the range of the items from `j` on, as its definition has it.
 use mathlib.Core.Path.{refl}
 use native.Mathlib.Omega.{arith}
 use Rattle.views.proofs.Loads.{range_start, range_more, range_end}
-use Rattle.views.proofs.plant_dock_range.Goals as goal
+use Rattle.views.proofs.loaded.StackLoad.plant_dock_range.Goals as goal
 
 pub loop-j-init : goal.loop-j-init
 loop-j-init c = range_start _ _ refl

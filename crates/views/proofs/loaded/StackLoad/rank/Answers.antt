@@ -1,7 +1,7 @@
--- `views::read_rank`: each part by its accessor. A load has an entry.
+-- `StackLoad::rank`: each part by its accessor. A load has an entry.
 use mathlib.Core.Path.{refl}
 use Rattle.views.specs.Views.{rank_of}
-use Rattle.views.proofs.read_rank.Goals as goal
+use Rattle.views.proofs.loaded.StackLoad.rank.Goals as goal
 
 pub returns : goal.returns
 unfolding rank_of

@@ -1,8 +1,0 @@
--- `views::plant_dock_range`: the range of the items from `j` on, as its definition has it.
-use Rattle.meaning.specs.Table.{instance_in}
-use Rattle.meaning.proofs.Lists.{Down}
-use Rattle.views.proofs.Loads.{range_over}
-use Rattle.views.proofs.plant_dock_range.Given as goal
-
-abbrev pub invariant-loop-j : goal.invariant-loop-j
-invariant-loop-j l = Down (range_over (instance_in l.table.named.limits l.table.named.words.now) l.truck) l.load l.j l.range
