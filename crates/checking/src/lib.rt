@@ -9,12 +9,13 @@ ghost use Rattle.table.specs.Filled.{Filled};
 ghost use Rattle.checking.specs.Checked.{CheckPromise};
 
 use judging::judge;
+use manifest::{NO_ROW, Row};
 use meaning::Answer;
 use reading::read_files;
 use table::{NamedWords, Table, small_limits};
 
-// The verdict on the table that readable files fill. The arrays are scratch, for there is no heap: for each stack a key and the 16 words of
-// its row; a word for each item or stack.
+// The verdict on the table that readable files fill. The arrays are scratch, for there is no heap: for each stack a key and a row; a word for
+// each item or stack.
 fn verdict(words: &[u32]) -> Answer
     requires { Filled small words.now }
     ensures { result ≡ verdict_on (instance_in small words.now) (stacks_in small words.now) }
@@ -25,7 +26,7 @@ fn verdict(words: &[u32]) -> Answer
     };
     let mut keys = [0u64; 256];
     let mut order = [0u32; 256];
-    let mut rows = [0u32; 4096];
+    let mut rows = [NO_ROW; 256];
     judge(table, &mut keys, &mut order, &mut rows)
 }
 

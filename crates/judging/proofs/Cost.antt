@@ -1,25 +1,31 @@
 -- The used trucks of a plan one by one: how many there are, and what they cost together.
 use mathlib.Core.Path.{◌≡◌, refl, sym, ap, ◌∙◌}
 use mathlib.Core.List.{List, [], ◌∷◌, ◌++◌}
-use Prim.Native.Nat.{ℕ, ◌+◌, ◌*◌, ◌≤◌}
+use Prim.Native.Nat.{ℕ, ◌+◌, ◌*◌, ◌≤◌, ◌<◌}
 use native.Mathlib.Omega.{arith}
 use lib.ListN.{length, drop, drop_of_length-le}
 use Rattle.meaning.specs.Lists.{dedup, sum}
-use Rattle.meaning.specs.Model.{Instance, Stack, truck, copy}
+use Rattle.meaning.specs.declared.Limits.{Limits}
+use Rattle.meaning.specs.Model.{Instance, Stack}
+use Rattle.meaning.specs.Table.{instance_in, stacks_in}
 use Rattle.meaning.specs.Measures.{UsedTruck, used_by, used_trucks}
 use Rattle.meaning.specs.Verdict.{acceptance, transport_cost, inventory_cost, cost}
 use Rattle.meaning.proofs.Permute.{length_perm, sum_perm}
 use Rattle.meaning.proofs.VerdictOrder.{used_trucks_perm}
-use Rattle.manifest.specs.Manifest.{manifest_at, in_manifest, block, OneTruck, Parted}
+use Rattle.manifest.specs.declared.row.Row.{Row}
+use Rattle.manifest.specs.Manifest.{manifest_at, in_manifest, block, HoldsRows, OneTruck, Parted, row_at}
+use Rattle.manifest.proofs.Reading.{row_is}
 use Rattle.manifest.proofs.Order.{manifest_length, manifest_perm}
 use Rattle.manifest.proofs.UsedTrucks.{parted_end, block_split, block_length, block_used, block_apart, used_one}
 use Rattle.costs.specs.Costs.{used_truck}
 use Rattle.judging.specs.Judging.{CountsTrucks}
 use Rattle.judging.proofs.Apart.{used_apart}
 
--- of the used truck of a stack, by its truck and copy
-pub cost_used : (i : Instance) (s : Stack) {n k r : ℕ} → r ≡ transport_cost i (used_truck n k) → n ≡ truck s → k ≡ copy s → r ≡ transport_cost i (used_by s)
-cost_used i s e en ek = e ∙ rw (en, ek) refl
+-- of the used truck of a stack, by its row
+pub cost_used : {m : Limits} {t : List ℕ} {rows : List Row} → HoldsRows m t rows → (k : ℕ) → k < length (stacks_in m t)
+    → transport_cost (instance_in m t) (used_truck (row_at rows k).truck (row_at rows k).copy)
+    ≡ transport_cost (instance_in m t) (used_by (manifest_at (stacks_in m t) k))
+cost_used {m} {t} h k inside = ap (λ (r : Row). transport_cost (instance_in m t) (used_truck r.truck r.copy)) (row_is h k inside)
 
 -- ---- the used trucks
 -- the used truck of some stacks that stand together, in front of those of the stacks after them

@@ -30,6 +30,7 @@ use Rattle.rules.specs.declared.TruckRule.TheVariants.{Unbraced, Overload, Middl
 use Rattle.rules.specs.LoadingRules.{pair_test, truck_rule_places}
 use Rattle.table.specs.Filled.{Filled}
 use Rattle.manifest.specs.Manifest.{manifest_at, in_manifest, block, HoldsRows, OneTruck, Parted, RunBefore}
+use Rattle.manifest.specs.declared.row.Row.{Row}
 use Rattle.manifest.proofs.Reading.{run_before}
 use Rattle.manifest.proofs.Order.{manifest_length, manifest_perm}
 use Rattle.manifest.proofs.UsedTrucks.{block_split, block_apart}
@@ -171,7 +172,7 @@ module _ {asked : Asked} {i : Instance} {p : List Stack} where
   told_start e = record { each = λ rule a w. tells_start i p rule e; counted = counted_start e }
 
   -- one used truck more
-  pub told_more : {start end count cost count' cost' : ℕ} (a b : Findings) → Told asked i p end b count cost → OneTruck p start end × Parted p start
+  told_more : {start end count cost count' cost' : ℕ} (a b : Findings) → Told asked i p end b count cost → OneTruck p start end × Parted p start
       → TellsAsked asked i (block p start end) a
       → (count' ≡ count + 1) × (cost' ≡ transport_cost i (used_by (manifest_at p start)) + cost) × (cost' ≤ cost + 2000000000)
       → Told asked i p start (joined a b) count' cost'
@@ -207,10 +208,19 @@ truck_told {asked} i p f s q w = record { each = told }
     told (OfTrucks Rear) e n = (w e).rear
 
 -- ---- what the walk leans on
--- the used truck before `end`, and the walk so far
-pub one_truck : {m : Limits} {t rows : List ℕ} {asked : Asked} {f : Findings} {start end count cost : ℕ} → HoldsRows m t rows
-    → Told asked (instance_in m t) (stacks_in m t) end f count cost → RunBefore rows start end → OneTruck (stacks_in m t) start end × Parted (stacks_in m t) start
-one_truck held h run = run_before held (omega (arith, h.counted.within)) run
+-- the used truck before `end`, and the walk with it
+module _ {m : Limits} {t : List ℕ} {rows : List Row} (held : HoldsRows m t rows) {asked : Asked} {f : Findings} {start end count cost : ℕ}
+    (h : Told asked (instance_in m t) (stacks_in m t) end f count cost) (run : RunBefore rows start end) where
+  one_truck : OneTruck (stacks_in m t) start end × Parted (stacks_in m t) start
+  one_truck = run_before held (omega (arith, h.counted.within)) run
+
+  pub truck_before : OneTruck (stacks_in m t) start end
+  truck_before = one_truck.0
+
+  pub walk_more : (here : Findings) {count' cost' : ℕ} → TellsAsked asked (instance_in m t) (block (stacks_in m t) start end) here
+      → (count' ≡ count + 1) × (cost' ≡ transport_cost (instance_in m t) (used_by (manifest_at (stacks_in m t) start)) + cost) × (cost' ≤ cost + 2000000000)
+      → Told asked (instance_in m t) (stacks_in m t) start (joined here f) count' cost'
+  walk_more here tells paid = told_more here f h one_truck tells paid
 
 -- each stack takes eight words of the table
 pub few_stacks : {m : Limits} {t : List ℕ} → Filled m t → length (stacks_in m t) ≤ 2097152

@@ -200,33 +200,31 @@ module _ {i : Instance} {p : List Stack} {b : Option Breach} {asked : Asked} {f 
   surveyed counts =
       record { within = omega (arith, r.within, upto_rules b first); kept = kept_below; on_stacks = on_stacks_lem; tells = told; used = counts }
 
-pub rank_inside : {i : Instance} {p : List Stack} {s : Survey} → SurveyOf i p s → (s.rank ≡ rule_count → ⊥) → s.rank < rule_count
-rank_inside h some = omega (arith, h.within, some)
+-- the first broken rule, by its kind: the answer is its number with the place that was found
+module _ {i : Instance} {p : List Stack} {s : Survey} {rule : Rule} (h : SurveyOf i p s) (some : s.rank ≡ rule_count → ⊥) (e : rule ≡ rule_at s.rank) where
+  inside : s.rank < rule_count
+  inside = omega (arith, h.within, some)
 
--- by the kind of the rule at that rank
-module _ (i : Instance) (p : List Stack) {s : Survey} (h : SurveyOf i p s) (inside : s.rank < rule_count) where
-  abbrev Lowest : Place → Type 0
-  Lowest q = Some q ≡ lowest_in (rule_places (rule_at s.rank) i p)
+  refused : (f : Option Place) (kept a : Answer) → a ≡ refusal (verdict_of rule) (place_in f)
+      → Some (place_in f) ≡ lowest_in (rule_places (rule_at s.rank) i p) → a ≡ first_broken loading_rules i p kept
+  refused f kept a ea low =
+      ea ∙ ap (λ r. refusal (verdict_of r) (place_in f)) e ∙ ap (λ v. refusal v (place_in f)) (verdict_named s.rank inside)
+      ∙ broken_at_rank kept s.rank (place_in f) inside h.kept low
 
-  pub refused : (kept : Answer) {a : Answer} {rule : Rule} {q : Place} → a ≡ refusal (verdict_of rule) q → rule ≡ rule_at s.rank → Lowest q
-      → a ≡ first_broken loading_rules i p kept
-  refused kept {q = q} ea er low =
-      ea ∙ ap (λ r. refusal (verdict_of r) q) er ∙ ap (λ v. refusal v q) (verdict_named s.rank inside) ∙ broken_at_rank kept s.rank q inside h.kept low
+  pub stack_refused : {each : StackRule} {f : Option Place} {a : Answer} → rule ≡ OfStacks each → f ≡ stack_found s.first
+      → a ≡ refusal (verdict_of rule) (place_in f) → (kept : Answer) → a ≡ first_broken loading_rules i p kept
+  stack_refused {f = f} k is ea kept = refused f kept _ ea (rw is (h.on_stacks inside (rw (← e, k) refl)))
 
-  pub stack_broken : {rule : Rule} (each : StackRule) {f : Option Place} → rule ≡ rule_at s.rank → rule ≡ OfStacks each → f ≡ stack_found s.first
-      → Lowest (place_in f)
-  stack_broken each e k is = rw is (h.on_stacks inside (rw (← e, k) refl))
-
-  pub pair_broken : {rule : Rule} (pair : PairRule) {f : Option Place} → rule ≡ rule_at s.rank → rule ≡ OfPairs pair → f ≡ lowest_in (rule_places (OfPairs pair) i p)
-      → Lowest (place_in f)
-  pair_broken pair {f} e k is =
+  pub pair_refused : {pair : PairRule} {f : Option Place} {a : Answer} → rule ≡ OfPairs pair → f ≡ lowest_in (rule_places (OfPairs pair) i p)
+      → a ≡ refusal (verdict_of rule) (place_in f) → (kept : Answer) → a ≡ first_broken loading_rules i p kept
+  pair_refused {pair} {f} k is ea kept =
       let kind : rule_at s.rank ≡ OfPairs pair = sym e ∙ k in
       let t = h.tells inside (rw kind refl) in
-      rw kind (lowest_broken is (rw kind at t.0) (rw kind at t.1))
+      refused f kept _ ea (rw kind (lowest_broken is (rw kind at t.0) (rw kind at t.1)))
 
-  pub truck_broken : {rule : Rule} (each : TruckRule) {f : Option Place} → rule ≡ rule_at s.rank → rule ≡ OfTrucks each → f ≡ truck_found each s.found
-      → Lowest (place_in f)
-  truck_broken each {f} e k is =
+  pub truck_refused : {each : TruckRule} {f : Option Place} {a : Answer} → rule ≡ OfTrucks each → f ≡ truck_found each s.found
+      → a ≡ refusal (verdict_of rule) (place_in f) → (kept : Answer) → a ≡ first_broken loading_rules i p kept
+  truck_refused {each} {f} k is ea kept =
       let kind : rule_at s.rank ≡ OfTrucks each = sym e ∙ k in
       let t = h.tells inside (rw kind refl) in
-      rw (kind, is) (found_some (truck_found each s.found) (rw kind at t.1) ∙ (rw kind at t.0))
+      refused f kept _ ea (rw (kind, is) (found_some (truck_found each s.found) (rw kind at t.1) ∙ (rw kind at t.0)))
