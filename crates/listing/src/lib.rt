@@ -37,7 +37,7 @@ fn write_head(table: Table<'_>, out: &mut Writer<'_>)
     write_one(b"trucks=", table.truck_count(), out);
 }
 
-// A line for each item.
+// A line for each item. (One function over a closure for this loop and the three like it would be longer than they are.)
 fn write_items(table: Table<'_>, out: &mut Writer<'_>)
     requires { HasRoom (lines_of "item=" (instance_of table).items) out.old }
     ensures { Appended (lines_of "item=" (instance_of table.entry).items) out.old out.new }

@@ -4,10 +4,11 @@ use mathlib.Core.List.{List, [], ◌∷◌, ◌++◌, map, append_assoc}
 use Prim.Native.Nat.{ℕ, ◌+◌, ◌≤◌, ◌<◌}
 use native.Mathlib.Omega.{arith}
 use lib.ListN.{length, get_or, drop, drop_of_length-le}
+use Rattle.meaning.specs.Reorder.{ended}
 use Rattle.meaning.specs.Print.{digits, comma_joined}
 use Rattle.meaning.proofs.Lists.{drop_next}
 use Rattle.printing.specs.declared.Writer.{Writer}
-use Rattle.printing.specs.Wrote.{numbers_bytes, line_bytes}
+use Rattle.printing.specs.Wrote.{line_bytes}
 use Rattle.printing.specs.Appended.{Appended}
 use Rattle.printing.proofs.Progress.{Onward, onward_next}
 
@@ -23,7 +24,7 @@ separated [] = []
 separated (n ∷ ns) = digits n ++ separator ns ∷ separated ns
 
 -- they are the numbers of a line
-separated_is : (ns : List ℕ) → 1 ≤ length ns → numbers_bytes ns ≡ separated ns
+separated_is : (ns : List ℕ) → 1 ≤ length ns → ended (comma_joined (map digits ns)) ≡ separated ns
 unfolding comma_joined separated separator
 separated_is [] h = absurd (omega arith)
 separated_is (n ∷ []) h = refl
@@ -31,6 +32,7 @@ separated_is (n ∷ m ∷ ns) h =
     append_assoc (digits n) (44 ∷ comma_joined (map digits (m ∷ ns))) (10 ∷ [])
     ∙ ap (λ (l : List ℕ). digits n ++ 44 ∷ l) (separated_is (m ∷ ns) (omega arith))
 
+-- behind the key
 pub line_is : (key ns : List ℕ) → 1 ≤ length ns → line_bytes key ns ≡ key ++ separated ns
 line_is key ns some = append_assoc key (comma_joined (map digits ns)) (10 ∷ []) ∙ ap (λ (l : List ℕ). key ++ l) (separated_is ns some)
 

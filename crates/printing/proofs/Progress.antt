@@ -87,18 +87,14 @@ module _ {whole out : List ℕ} {new : Writer} (none : (new.bytes.now ≡ out) �
   pub new_room : length whole ≤ length out → HasRoom whole new
   new_room fits = record { fits = omega (arith, fits, none.1, ap length none.0) }
 
-  pub new_wrote : {now : Writer} → Appended whole new now → length whole ≤ length out → Wrote whole out now.bytes.now now.len
-  new_wrote {now} x fits =
+  -- the lent bytes end as the writer's
+  pub new_wrote : {now : Writer} {end : List ℕ} {n : ℕ} → Appended whole new now → end ≡ now.bytes.now → n ≡ now.len → Wrote whole out end n
+  new_wrote {now} x ends counts =
       let front : written new ≡ [] = rw none.1 refl in
       let rest : behind new ≡ out = rw (none.1, none.0) refl in
-      let stands : whole ++ drop (length whole) out ≡ now.bytes.now =
-      rw (← rest, ← x.behind) (ap (λ (l : List ℕ). l ++ behind now) (rw front at (sym x.written)) ∙ take-append-drop now.len now.bytes.now) in
-      record { count = omega (arith, x.count, none.1); after = sym stands }
-
--- as its function returns: the lent bytes end as the writer's
-pub new_returned : {whole out end : List ℕ} {new now : Writer} {n : ℕ} → (new.bytes.now ≡ out) × (new.len ≡ 0) → Appended whole new now → length whole ≤ length out
-    → end ≡ now.bytes.now → n ≡ now.len → Wrote whole out end n
-new_returned none x fits e k = rw (e, k) (new_wrote none x fits)
+      let parts : whole ++ behind now ≡ now.bytes.now =
+      ap (λ (l : List ℕ). l ++ behind now) (rw front at (sym x.written)) ∙ take-append-drop now.len now.bytes.now in
+      record { count = omega (arith, counts, x.count, none.1); after = ends ∙ sym (rw (← rest, ← x.behind) parts) }
 
 -- of the bytes `whole` those before `left` are written, and there is room for `left`
 pub record Onward (whole : List ℕ) (start now : Writer) (left : List ℕ) : Type 0 where
@@ -136,9 +132,6 @@ module _ {A : Type 0} where
   pub record Listing (f : A → List ℕ) (l : List A) (start now : Writer) (k : ℕ) : Type 0 where
     pub inside : k ≤ length l
     pub onward : Onward (flat_map f l) start now (flat_map f (drop k l))
-
-  pub listing_start : (f : A → List ℕ) (l : List A) (w : Writer) → HasRoom (flat_map f l) w → Listing f l w w 0
-  listing_start f l w fits = record { inside = omega arith; onward = onward_start fits }
 
   module _ {f : A → List ℕ} {l : List A} {start now : Writer} {k : ℕ} (s : Listing f l start now k) where
     module _ (d : A) (h : k < length l) where

@@ -8,10 +8,6 @@ pub record Wrote (bytes before now : List ℕ) (n : ℕ) : Type 0 where
   pub count : n ≡ length bytes
   pub after : now ≡ bytes ++ drop (length bytes) before
 
--- the numbers of a line and its byte 10
-abbrev pub numbers_bytes : List ℕ → List ℕ
-numbers_bytes ns = ended (comma_joined (map digits ns))
-
 -- a line with its byte 10
 abbrev pub line_bytes : List ℕ → List ℕ → List ℕ
 line_bytes key ns = ended (key ++ comma_joined (map digits ns))

@@ -1,6 +1,6 @@
 -- `listing::write_instance`: the head, the items, the trucks.
 use Rattle.std.proofs.Common.{rules}
-use Rattle.printing.proofs.Progress.{appended_both, room_front, room_behind, new_room, new_returned}
+use Rattle.printing.proofs.Progress.{appended_both, room_front, room_behind, new_room, new_wrote}
 use Rattle.listing.proofs.Files.{instance_parts}
 use Rattle.listing.proofs.write_instance.Goals as goal
 
@@ -19,6 +19,5 @@ write_trucks-requires c =
 
 pub returns : goal.returns
 returns c =
-    new_returned {now = c.write_trucks.new.out} c.new-file.ensures.nothing_written
-    (rw (← instance_parts) at (appended_both c.write_head.ensures (appended_both c.write_items.ensures c.write_trucks.ensures))) c.requires
-    (search rules) (search rules)
+    let all = appended_both c.write_head.ensures (appended_both c.write_items.ensures c.write_trucks.ensures) in
+    new_wrote c.new-file.ensures.nothing_written (rw (← instance_parts) at all) (search rules) (search rules)

@@ -1,6 +1,6 @@
 -- `listing::write_plan`: the count of the stacks, then the stacks.
 use Rattle.std.proofs.Common.{rules}
-use Rattle.printing.proofs.Progress.{appended_both, room_front, room_behind, new_room, new_returned}
+use Rattle.printing.proofs.Progress.{appended_both, room_front, room_behind, new_room, new_wrote}
 use Rattle.listing.proofs.Lines.{line_room, line_wrote, one}
 use Rattle.listing.proofs.Files.{plan_parts}
 use Rattle.listing.proofs.write_plan.Goals as goal
@@ -16,6 +16,5 @@ write_stacks-requires c =
 
 pub returns : goal.returns
 returns c =
-    let first = line_wrote "stacks=" (one c.stack_count.ensures.0) c.write_one.ensures in
-    new_returned {now = c.write_stacks.new.out} c.new-file.ensures.nothing_written (rw (← plan_parts) at (appended_both first c.write_stacks.ensures)) c.requires
-    (search rules) (search rules)
+    let all = appended_both (line_wrote "stacks=" (one c.stack_count.ensures.0) c.write_one.ensures) c.write_stacks.ensures in
+    new_wrote c.new-file.ensures.nothing_written (rw (← plan_parts) at all) (search rules) (search rules)
