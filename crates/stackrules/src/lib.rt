@@ -3,19 +3,20 @@
 #![tactic(auto)]
 
 ghost use Rattle.std.specs.Prelude.{[], ◌≡◌, ◌↔◌, true, not, cond, ◌∷◌, ◌+◌, ◌*◌, ◌≤◌, ◌<◌, leb, eqb, length, get_or};
-ghost use Rattle.meaning.specs.Model.{item};
 ghost use Rattle.meaning.specs.Measures.{bottom};
 ghost use Rattle.meaning.specs.Rules.{not_once, plant_matches, product_carried, supplier_visited, arrives_in_window, docks_served};
 ghost use Rattle.meaning.specs.Rules.{stackable, orientation_kept};
-ghost use Rattle.table.specs.Filled.{stack_at, ItemNumber};
+ghost use Rattle.table.specs.Filled.{ItemNumber};
 ghost use Rattle.search.specs.Lowest.{lowest_in};
 ghost use Rattle.rules.specs.declared.Rule.TheVariants.{OfStacks};
 ghost use Rattle.rules.specs.LoadingRules.{item_test, rule_count, rule_at};
 ghost use Rattle.manifest.specs.Manifest.{manifest_at};
 ghost use Rattle.stackrules.specs.StackRules.{every_item_test, own_places, OwnRulesKept, with_item, FirstOf, FirstOnStacks};
 ghost use Rattle.stackrules.specs.StackRules.{RowOfStack, Countable, Counted, Tally};
+ghost use Rattle.stackrules.specs.Loaded.{stack_of, item_of};
 ghost use Rattle.table.specs.Held.{instance_of, stacks_of};
 
+use loaded_item::LoadedItem;
 use manifest::{Manifest, Row};
 use meaning::Place;
 use rules::{ItemRule, OwnRule, RULES, Rule, StackRule, rule_at};
@@ -29,6 +30,8 @@ use views::{
     StackLoad, bottom_field, plant_dock_order, stack_truck_field, supplier_dock_order,
     supplier_order,
 };
+
+mod loaded_item;
 
 // ---- 9, not once
 
@@ -69,114 +72,99 @@ pub fn lowest_not_once(table: Table<'_>, times: &mut [u32]) -> Option<Place>
 
 // ---- the rules on each item of a stack: 10 to 15 and 18
 
-// 10 plant, I2: the truck goes to the item's plant.
-fn plant_matches(table: Table<'_>, s: usize, n: u32) -> bool
-    requires { (s < length (stacks_of table)) × ItemNumber (instance_of table) n }
-    ensures { result ≡ plant_matches (instance_of table.entry) (stack_at (stacks_of table.entry) s)
-        (item (instance_of table.entry) n) }
-{
-    table.item_field(n, IP) == stack_truck_field(table, s, TP)
-}
-
-// 11 product, I3: the truck takes the item's product.
-fn product_carried(table: Table<'_>, s: usize, n: u32) -> bool
-    requires { (s < length (stacks_of table)) × ItemNumber (instance_of table) n }
-    ensures { result ≡ product_carried (instance_of table.entry) (stack_at (stacks_of table.entry) s)
-        (item (instance_of table.entry) n) }
-{
-    let list = table.products(table.stack_truck(s));
-    is_listed(list, table.item_field(n, IR))
-}
-
-// 12 supplier, I4: the truck stops at the item's supplier.
-fn supplier_visited(table: Table<'_>, s: usize, n: u32) -> bool
-    requires { (s < length (stacks_of table)) × ItemNumber (instance_of table) n }
-    ensures { result ≡ supplier_visited (instance_of table.entry) (stack_at (stacks_of table.entry) s)
-        (item (instance_of table.entry) n) }
-{
-    let truck = table.stack_truck(s);
-    1 <= supplier_order(table, truck, table.item_field(n, IU))
-}
-
-// 13 day, I5: the truck arrives within the item's days.
-fn arrives_in_window(table: Table<'_>, s: usize, n: u32) -> bool
-    requires { (s < length (stacks_of table)) × ItemNumber (instance_of table) n }
-    ensures { result ≡ arrives_in_window (instance_of table.entry) (stack_at (stacks_of table.entry) s)
-        (item (instance_of table.entry) n) }
-{
-    let day = stack_truck_field(table, s, TDA);
-    (table.item_field(n, IDE) <= day) & (day <= table.item_field(n, IDL))
-}
-
-// 14 dock: both docks of the item are listed.
-fn docks_served(table: Table<'_>, s: usize, n: u32) -> bool
-    requires { (s < length (stacks_of table)) × ItemNumber (instance_of table) n }
-    ensures { result ≡ docks_served (instance_of table.entry) (stack_at (stacks_of table.entry) s)
-        (item (instance_of table.entry) n) }
-{
-    let truck = table.stack_truck(s);
-    (1 <= supplier_dock_order(table, truck, n)) & (1 <= plant_dock_order(table, truck, n))
-}
-
-// Whether an item has the bottom item's value in a field.
-fn matches_bottom(table: Table<'_>, s: usize, n: u32, field: usize) -> bool
-    requires { (s < length (stacks_of table)) × ItemNumber (instance_of table) n × (field < 16) }
-    ensures { result ≡ eqb (get_or (item (instance_of table.entry) n) field 0)
-        (get_or (bottom (instance_of table.entry) (stack_at (stacks_of table.entry) s)) field 0) }
-{
-    table.item_field(n, field) == bottom_field(table, s, field)
-}
-
-// 15 mixed, S1: supplier, plant, code, maximal stackability and supplier dock are the bottom item's.
-fn is_stackable(table: Table<'_>, s: usize, n: u32) -> bool
-    requires { (s < length (stacks_of table)) × ItemNumber (instance_of table) n }
-    ensures { result ≡ stackable (instance_of table.entry) (stack_at (stacks_of table.entry) s)
-        (item (instance_of table.entry) n) }
-{
-    (((matches_bottom(table, s, n, IU) & matches_bottom(table, s, n, IP))
-        & matches_bottom(table, s, n, IS))
-        & matches_bottom(table, s, n, ISM))
-        & matches_bottom(table, s, n, IK)
-}
-
-// 18 turned, S4: a forced orientation is the stack's.
-fn orientation_kept(table: Table<'_>, s: usize, n: u32) -> bool
-    requires { (s < length (stacks_of table)) × ItemNumber (instance_of table) n }
-    ensures { result ≡ orientation_kept (instance_of table.entry) (stack_at (stacks_of table.entry) s)
-        (item (instance_of table.entry) n) }
-{
-    let forced = table.item_field(n, IO);
-    (forced == 0) | (forced == table.stack_field(s, ORIENTATION))
-}
-
-// Whether an item of a stack keeps a rule.
-fn item_kept(rule: ItemRule, table: Table<'_>, s: usize, n: u32) -> bool
-    requires { (s < length (stacks_of table)) × ItemNumber (instance_of table) n }
-    ensures { result ≡ item_test rule (instance_of table.entry) (stack_at (stacks_of table.entry) s)
-        (item (instance_of table.entry) n) }
-{
-    match rule {
-        ItemRule::Plant => plant_matches(table, s, n),
-        ItemRule::Product => product_carried(table, s, n),
-        ItemRule::Supplier => supplier_visited(table, s, n),
-        ItemRule::Day => arrives_in_window(table, s, n),
-        ItemRule::Dock => docks_served(table, s, n),
-        ItemRule::Mixed => is_stackable(table, s, n),
-        ItemRule::Turned => orientation_kept(table, s, n),
+impl<'a> LoadedItem<'a> {
+    // 10 plant, I2: the truck goes to the item's plant.
+    fn plant_matches(self) -> bool
+        ensures { result ≡ plant_matches (instance_of self.entry.table) (stack_of self.entry) (item_of self.entry) }
+    {
+        self.table.item_field(self.number, IP) == stack_truck_field(self.table, self.place, TP)
     }
-}
 
-// Whether an item of a stack keeps every rule on items.
-fn item_keeps_rules(table: Table<'_>, s: usize, n: u32) -> bool
-    requires { (s < length (stacks_of table)) × ItemNumber (instance_of table) n }
-    ensures { result ≡ every_item_test (instance_of table.entry) (stack_at (stacks_of table.entry) s)
-        (item (instance_of table.entry) n) }
-{
-    (((((plant_matches(table, s, n) & product_carried(table, s, n)) & supplier_visited(table, s, n))
-        & arrives_in_window(table, s, n))
-        & docks_served(table, s, n))
-        & is_stackable(table, s, n))
-        & orientation_kept(table, s, n)
+    // 11 product, I3: the truck takes the item's product.
+    fn product_carried(self) -> bool
+        ensures { result ≡ product_carried (instance_of self.entry.table) (stack_of self.entry) (item_of self.entry) }
+    {
+        let list = self.table.products(self.table.stack_truck(self.place));
+        is_listed(list, self.table.item_field(self.number, IR))
+    }
+
+    // 12 supplier, I4: the truck stops at the item's supplier.
+    fn supplier_visited(self) -> bool
+        ensures { result ≡ supplier_visited (instance_of self.entry.table) (stack_of self.entry) (item_of self.entry) }
+    {
+        let truck = self.table.stack_truck(self.place);
+        1 <= supplier_order(self.table, truck, self.table.item_field(self.number, IU))
+    }
+
+    // 13 day, I5: the truck arrives within the item's days.
+    fn arrives_in_window(self) -> bool
+        ensures { result ≡ arrives_in_window (instance_of self.entry.table) (stack_of self.entry) (item_of self.entry) }
+    {
+        let day = stack_truck_field(self.table, self.place, TDA);
+        (self.table.item_field(self.number, IDE) <= day)
+            & (day <= self.table.item_field(self.number, IDL))
+    }
+
+    // 14 dock: both docks of the item are listed.
+    fn docks_served(self) -> bool
+        ensures { result ≡ docks_served (instance_of self.entry.table) (stack_of self.entry) (item_of self.entry) }
+    {
+        let truck = self.table.stack_truck(self.place);
+        (1 <= supplier_dock_order(self.table, truck, self.number))
+            & (1 <= plant_dock_order(self.table, truck, self.number))
+    }
+
+    // Whether an item has the bottom item's value in a field.
+    fn matches_bottom(self, field: usize) -> bool
+        requires { field < 16 }
+        ensures { result ≡ eqb (get_or (item_of self.entry) field 0)
+            (get_or (bottom (instance_of self.entry.table) (stack_of self.entry)) field 0) }
+    {
+        self.table.item_field(self.number, field) == bottom_field(self.table, self.place, field)
+    }
+
+    // 15 mixed, S1: supplier, plant, code, maximal stackability and supplier dock are the bottom item's.
+    fn is_stackable(self) -> bool
+        ensures { result ≡ stackable (instance_of self.entry.table) (stack_of self.entry) (item_of self.entry) }
+    {
+        (((self.matches_bottom(IU) & self.matches_bottom(IP)) & self.matches_bottom(IS))
+            & self.matches_bottom(ISM))
+            & self.matches_bottom(IK)
+    }
+
+    // 18 turned, S4: a forced orientation is the stack's.
+    fn orientation_kept(self) -> bool
+        ensures { result ≡ orientation_kept (instance_of self.entry.table) (stack_of self.entry) (item_of self.entry) }
+    {
+        let forced = self.table.item_field(self.number, IO);
+        (forced == 0) | (forced == self.table.stack_field(self.place, ORIENTATION))
+    }
+
+    // Whether an item of a stack keeps a rule.
+    fn keeps(self, rule: ItemRule) -> bool
+        ensures { result ≡ item_test rule (instance_of self.entry.table) (stack_of self.entry) (item_of self.entry) }
+    {
+        match rule {
+            ItemRule::Plant => self.plant_matches(),
+            ItemRule::Product => self.product_carried(),
+            ItemRule::Supplier => self.supplier_visited(),
+            ItemRule::Day => self.arrives_in_window(),
+            ItemRule::Dock => self.docks_served(),
+            ItemRule::Mixed => self.is_stackable(),
+            ItemRule::Turned => self.orientation_kept(),
+        }
+    }
+
+    // Whether an item of a stack keeps every rule on items.
+    fn keeps_rules(self) -> bool
+        ensures { result ≡ every_item_test (instance_of self.entry.table) (stack_of self.entry) (item_of self.entry) }
+    {
+        (((((self.plant_matches() & self.product_carried()) & self.supplier_visited())
+            & self.arrives_in_window())
+            & self.docks_served())
+            & self.is_stackable())
+            & self.orientation_kept()
+    }
 }
 
 // ---- the rules on the stack itself: 16 and 19 to 22. Each function answers where the stack at place k of the rows breaks its rule
@@ -328,8 +316,12 @@ fn stack_place(rule: StackRule, manifest: Manifest<'_>, k: usize, n: u32) -> Opt
     match rule {
         StackRule::EachItem(each) => {
             let row = stack_row(manifest, k);
-            let kept = item_kept(each, manifest.table, row.index as usize, n);
-            place_if(!kept, row.number, n, 0)
+            let item = LoadedItem {
+                table: manifest.table,
+                place: row.index as usize,
+                number: n,
+            };
+            place_if(!item.keeps(each), row.number, n, 0)
         }
         StackRule::Own(own) => own_place(own, manifest, k),
     }
@@ -373,7 +365,12 @@ fn stack_breach(manifest: Manifest<'_>, k: usize) -> Option<Breach>
     let mut first = None;
     for j in (0..items.len()).rev() {
         let n = items[j];
-        if !(own & item_keeps_rules(manifest.table, s, n)) {
+        let item = LoadedItem {
+            table: manifest.table,
+            place: s,
+            number: n,
+        };
+        if !(own & item.keeps_rules()) {
             first = lower_of(breach_with_item(manifest, k, n), first);
         }
     }

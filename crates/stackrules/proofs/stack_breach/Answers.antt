@@ -9,14 +9,14 @@ use Rattle.stackrules.proofs.stack_breach.Goals as goal
 pub loop-j-init : goal.loop-j-init
 loop-j-init c = from_none refl
 
-pub loop-j-preserved-then-not-own-item_keeps_rules : goal.loop-j-preserved-then-not-own-item_keeps_rules
-loop-j-preserved-then-not-own-item_keeps_rules c = from_more 0 c.loop-j.invariant c.loop-j-test.true c.breach_with_item.ensures c.lower_of-first.ensures
+pub loop-j-preserved-then-not-own-keeps_rules : goal.loop-j-preserved-then-not-own-keeps_rules
+loop-j-preserved-then-not-own-keeps_rules c = from_more 0 c.loop-j.invariant c.loop-j-test.true c.breach_with_item.ensures c.lower_of-first.ensures
 
 pub loop-j-preserved : goal.loop-j-preserved
 loop-j-preserved c =
     let same = stack_same c.stack_row-s.ensures in
     from_kept 0 c.loop-j.invariant c.loop-j-test.true
-    (all_kept_lem _ _ _ same c.own_rules_kept-own.ensures c.item_keeps_rules.ensures c.if-not-own-item_keeps_rules.false)
+    (all_kept_lem _ _ _ same c.own_rules_kept-own.ensures c.keeps_rules.ensures c.if-not-own-keeps_rules.false)
 
 pub returns : goal.returns
 returns c =

@@ -4,7 +4,7 @@ use Rattle.stackrules.proofs.Stacks.{item_is}
 use Rattle.stackrules.proofs.stack_place.Goals as goal
 
 pub returns-in-EachItem : goal.returns-in-EachItem
-returns-in-EachItem c = rw c.in-EachItem.is (item_is c.stack_row-row.ensures _ _ c.item_kept-kept.ensures c.place_if.ensures)
+returns-in-EachItem c = rw c.in-EachItem.is (item_is c.stack_row-row.ensures _ _ c.keeps.ensures c.place_if.ensures)
 
 pub returns-in-Own : goal.returns-in-Own
 unfolding with_item
