@@ -10,12 +10,12 @@ ghost use Rattle.table.specs.Filled.{ItemNumber};
 ghost use Rattle.search.specs.Lowest.{lowest_in};
 ghost use Rattle.rules.specs.declared.Rule.TheVariants.{OfStacks};
 ghost use Rattle.rules.specs.LoadingRules.{item_test, rule_count, rule_at};
-ghost use Rattle.manifest.specs.Manifest.{manifest_at};
 ghost use Rattle.stackrules.specs.StackRules.{every_item_test, own_places, OwnRulesKept, with_item, FirstOf, FirstOnStacks};
 ghost use Rattle.stackrules.specs.StackRules.{RowOfStack, Countable, Counted, Tally};
-ghost use Rattle.stackrules.specs.Loaded.{stack_of, item_of};
+ghost use Rattle.stackrules.specs.Loaded.{listed_stack, stack_of, item_of};
 ghost use Rattle.table.specs.Held.{instance_of, stacks_of};
 
+use listed_stack::ListedStack;
 use loaded_item::LoadedItem;
 use manifest::{Manifest, Row};
 use meaning::Place;
@@ -31,6 +31,7 @@ use views::{
     supplier_order,
 };
 
+mod listed_stack;
 mod loaded_item;
 
 // ---- 9, not once
@@ -167,55 +168,7 @@ impl<'a> LoadedItem<'a> {
     }
 }
 
-// ---- the rules on the stack itself: 16 and 19 to 22. Each function answers where the stack at place k of the rows breaks its rule
-
-// The row of the stack at place k, with what the table has of it.
-fn stack_row(manifest: Manifest<'_>, k: usize) -> Row
-    requires { k < length (stacks_of manifest.table) }
-    ensures { RowOfStack (instance_of manifest.entry.table) (stacks_of manifest.entry.table) k result }
-{
-    manifest.rows[k]
-}
-
-// 16 docks, S2 and S3: one plant dock; where the truck's flag is set also two, if they are consecutive.
-fn docks_place(manifest: Manifest<'_>, k: usize) -> Option<Place>
-    requires { k < length (stacks_of manifest.table) }
-    ensures { result ≡ lowest_in (own_places OwnRule.Docks (instance_of manifest.entry.table) (manifest_at (stacks_of manifest.entry.table) k)) }
-{
-    let row = stack_row(manifest, k);
-    let count = row.plant_docks;
-    let two_docks = manifest.table.truck_field(row.truck, TF) == 1;
-    let consecutive = (count == 2) & (row.rank.lowest + 1 == row.rank.highest);
-    let allowed = (count <= 1) | (two_docks & consecutive);
-    place_if(!allowed, row.number, count, 0)
-}
-
-// 19 top heavy, S5: the weight above the bottom item is within the truck's limit.
-fn top_heavy_place(manifest: Manifest<'_>, k: usize) -> Option<Place>
-    requires { k < length (stacks_of manifest.table) }
-    ensures { result ≡ lowest_in (own_places OwnRule.TopHeavy (instance_of manifest.entry.table) (manifest_at (stacks_of manifest.entry.table) k)) }
-{
-    let row = stack_row(manifest, k);
-    let load = StackLoad {
-        table: manifest.table,
-        items: manifest.table.load(row.index as usize),
-    };
-    let above = load.sum(1, IM);
-    let within = above <= manifest.table.truck_field(row.truck, TOP_LIMIT);
-    place_if(!within, row.number, above, 0)
-}
-
-// 20 too many, S6: no more items than the maximal stackability.
-fn too_many_place(manifest: Manifest<'_>, k: usize) -> Option<Place>
-    requires { k < length (stacks_of manifest.table) }
-    ensures { result ≡ lowest_in (own_places OwnRule.TooMany (instance_of manifest.entry.table) (manifest_at (stacks_of manifest.entry.table) k)) }
-{
-    let row = stack_row(manifest, k);
-    let items = manifest.table.load(row.index as usize);
-    let count = items.len() as u32;
-    let within = count <= manifest.table.item_field(items[0], ISM);
-    place_if(!within, row.number, count, 0)
-}
+// ---- the rules on the stack itself: 16 and 19 to 22. Each method of a listed stack answers where it breaks its rule
 
 // Whether a stack of this weight in kilograms keeps the density limit, in kilograms per square metre, on this ground in square millimetres.
 fn density_kept(weight: u32, limit: u32, length: u32, width: u32) -> bool
@@ -223,20 +176,6 @@ fn density_kept(weight: u32, limit: u32, length: u32, width: u32) -> bool
     ensures { result ≡ leb (weight * 1000000) (limit * length * width) }
 {
     (weight as u64) * 1000000 <= (limit as u64) * (length as u64) * (width as u64)
-}
-
-// 21 dense, S7: the weight on the ground is within the truck's density limit.
-fn dense_place(manifest: Manifest<'_>, k: usize) -> Option<Place>
-    requires { k < length (stacks_of manifest.table) }
-    ensures { result ≡ lowest_in (own_places OwnRule.Dense (instance_of manifest.entry.table) (manifest_at (stacks_of manifest.entry.table) k)) }
-{
-    let row = stack_row(manifest, k);
-    let s = row.index as usize;
-    let length = bottom_field(manifest.table, s, IL);
-    let width = bottom_field(manifest.table, s, IW);
-    let limit = manifest.table.truck_field(row.truck, TEM);
-    let kept = density_kept(row.weight, limit, length, width);
-    place_if(!kept, row.number, row.weight, 0)
 }
 
 // The lowest dimension that does not fit: 1 length, 2 width, 3 height. The two tests say whether length and width fit.
@@ -252,50 +191,106 @@ fn exceeded_side(length: bool, width: bool) -> u32
     3
 }
 
-// 22 outside, P1: the stack is within the trailer.
-fn outside_place(manifest: Manifest<'_>, k: usize) -> Option<Place>
-    requires { k < length (stacks_of manifest.table) }
-    ensures { result ≡ lowest_in (own_places OwnRule.Outside (instance_of manifest.entry.table) (manifest_at (stacks_of manifest.entry.table) k)) }
-{
-    let row = stack_row(manifest, k);
-    let load = StackLoad {
-        table: manifest.table,
-        items: manifest.table.load(row.index as usize),
-    };
-    let size = load.size();
-    let within_length = row.footprint.xe <= manifest.table.truck_field(row.truck, TL);
-    let within_width = row.footprint.ye <= manifest.table.truck_field(row.truck, TW);
-    let within_height = size.height <= manifest.table.truck_field(row.truck, TH);
-    let inside = (within_length & within_width) & within_height;
-    let side = exceeded_side(within_length, within_width);
-    place_if(!inside, row.number, side, 0)
-}
-
-// Where the stack at place k breaks a rule on itself.
-fn own_place(rule: OwnRule, manifest: Manifest<'_>, k: usize) -> Option<Place>
-    requires { k < length (stacks_of manifest.table) }
-    ensures { result ≡ lowest_in (own_places rule (instance_of manifest.entry.table) (manifest_at (stacks_of manifest.entry.table) k)) }
-{
-    match rule {
-        OwnRule::Docks => docks_place(manifest, k),
-        OwnRule::TopHeavy => top_heavy_place(manifest, k),
-        OwnRule::TooMany => too_many_place(manifest, k),
-        OwnRule::Dense => dense_place(manifest, k),
-        OwnRule::Outside => outside_place(manifest, k),
+impl<'a> ListedStack<'a> {
+    // Its row, with what the table has of it.
+    fn row(self) -> Row
+        ensures { RowOfStack (instance_of self.entry.manifest.table) (stacks_of self.entry.manifest.table) self.entry.at result }
+    {
+        self.manifest.rows[self.at]
     }
-}
 
-// Whether the stack at place k keeps every rule on the stack itself.
-fn own_rules_kept(manifest: Manifest<'_>, k: usize) -> bool
-    requires { k < length (stacks_of manifest.table) }
-    ensures { (result ≡ true) ↔ OwnRulesKept (instance_of manifest.entry.table) (manifest_at (stacks_of manifest.entry.table) k) }
-{
-    let docks = docks_place(manifest, k).is_none();
-    let top = top_heavy_place(manifest, k).is_none();
-    let count = too_many_place(manifest, k).is_none();
-    let density = dense_place(manifest, k).is_none();
-    let ground = outside_place(manifest, k).is_none();
-    (((docks & top) & count) & density) & ground
+    // 16 docks, S2 and S3: one plant dock; where the truck's flag is set also two, if they are consecutive.
+    fn docks_place(self) -> Option<Place>
+        ensures { result ≡ lowest_in (own_places OwnRule.Docks (instance_of self.entry.manifest.table) (listed_stack self.entry)) }
+    {
+        let row = self.row();
+        let count = row.plant_docks;
+        let two_docks = self.manifest.table.truck_field(row.truck, TF) == 1;
+        let consecutive = (count == 2) & (row.rank.lowest + 1 == row.rank.highest);
+        let allowed = (count <= 1) | (two_docks & consecutive);
+        place_if(!allowed, row.number, count, 0)
+    }
+
+    // 19 top heavy, S5: the weight above the bottom item is within the truck's limit.
+    fn top_heavy_place(self) -> Option<Place>
+        ensures { result ≡ lowest_in (own_places OwnRule.TopHeavy (instance_of self.entry.manifest.table) (listed_stack self.entry)) }
+    {
+        let row = self.row();
+        let load = StackLoad {
+            table: self.manifest.table,
+            items: self.manifest.table.load(row.index as usize),
+        };
+        let above = load.sum(1, IM);
+        let within = above <= self.manifest.table.truck_field(row.truck, TOP_LIMIT);
+        place_if(!within, row.number, above, 0)
+    }
+
+    // 20 too many, S6: no more items than the maximal stackability.
+    fn too_many_place(self) -> Option<Place>
+        ensures { result ≡ lowest_in (own_places OwnRule.TooMany (instance_of self.entry.manifest.table) (listed_stack self.entry)) }
+    {
+        let row = self.row();
+        let items = self.manifest.table.load(row.index as usize);
+        let count = items.len() as u32;
+        let within = count <= self.manifest.table.item_field(items[0], ISM);
+        place_if(!within, row.number, count, 0)
+    }
+
+    // 21 dense, S7: the weight on the ground is within the truck's density limit.
+    fn dense_place(self) -> Option<Place>
+        ensures { result ≡ lowest_in (own_places OwnRule.Dense (instance_of self.entry.manifest.table) (listed_stack self.entry)) }
+    {
+        let row = self.row();
+        let s = row.index as usize;
+        let length = bottom_field(self.manifest.table, s, IL);
+        let width = bottom_field(self.manifest.table, s, IW);
+        let limit = self.manifest.table.truck_field(row.truck, TEM);
+        let kept = density_kept(row.weight, limit, length, width);
+        place_if(!kept, row.number, row.weight, 0)
+    }
+
+    // 22 outside, P1: the stack is within the trailer.
+    fn outside_place(self) -> Option<Place>
+        ensures { result ≡ lowest_in (own_places OwnRule.Outside (instance_of self.entry.manifest.table) (listed_stack self.entry)) }
+    {
+        let row = self.row();
+        let load = StackLoad {
+            table: self.manifest.table,
+            items: self.manifest.table.load(row.index as usize),
+        };
+        let size = load.size();
+        let within_length = row.footprint.xe <= self.manifest.table.truck_field(row.truck, TL);
+        let within_width = row.footprint.ye <= self.manifest.table.truck_field(row.truck, TW);
+        let within_height = size.height <= self.manifest.table.truck_field(row.truck, TH);
+        let inside = (within_length & within_width) & within_height;
+        let side = exceeded_side(within_length, within_width);
+        place_if(!inside, row.number, side, 0)
+    }
+
+    // Where the stack breaks a rule on itself.
+    fn own_place(self, rule: OwnRule) -> Option<Place>
+        ensures { result ≡ lowest_in (own_places rule (instance_of self.entry.manifest.table) (listed_stack self.entry)) }
+    {
+        match rule {
+            OwnRule::Docks => self.docks_place(),
+            OwnRule::TopHeavy => self.top_heavy_place(),
+            OwnRule::TooMany => self.too_many_place(),
+            OwnRule::Dense => self.dense_place(),
+            OwnRule::Outside => self.outside_place(),
+        }
+    }
+
+    // Whether the stack keeps every rule on the stack itself.
+    fn own_rules_kept(self) -> bool
+        ensures { (result ≡ true) ↔ OwnRulesKept (instance_of self.entry.manifest.table) (listed_stack self.entry) }
+    {
+        let docks = self.docks_place().is_none();
+        let top = self.top_heavy_place().is_none();
+        let count = self.too_many_place().is_none();
+        let density = self.dense_place().is_none();
+        let ground = self.outside_place().is_none();
+        (((docks & top) & count) & density) & ground
+    }
 }
 
 // ---- the first rule on stacks that is broken
@@ -308,73 +303,74 @@ pub struct Breach {
     pub place: Place,
 }
 
-// Where the stack at place k breaks a rule on itself, or with its item n a rule on items.
-fn stack_place(rule: StackRule, manifest: Manifest<'_>, k: usize, n: u32) -> Option<Place>
-    requires { (k < length (stacks_of manifest.table)) × ItemNumber (instance_of manifest.table) n }
-    ensures { result ≡ lowest_in (with_item (instance_of manifest.entry.table) (manifest_at (stacks_of manifest.entry.table) k) n (OfStacks rule)) }
-{
-    match rule {
-        StackRule::EachItem(each) => {
-            let row = stack_row(manifest, k);
+impl<'a> ListedStack<'a> {
+    // Where the stack breaks a rule on itself, or with its item n a rule on items.
+    fn stack_place(self, rule: StackRule, n: u32) -> Option<Place>
+        requires { ItemNumber (instance_of self.manifest.table) n }
+        ensures { result ≡ lowest_in (with_item (instance_of self.entry.manifest.table) (listed_stack self.entry) n (OfStacks rule)) }
+    {
+        match rule {
+            StackRule::EachItem(each) => {
+                let row = self.row();
+                let item = LoadedItem {
+                    table: self.manifest.table,
+                    place: row.index as usize,
+                    number: n,
+                };
+                place_if(!item.keeps(each), row.number, n, 0)
+            }
+            StackRule::Own(own) => self.own_place(own),
+        }
+    }
+
+    // The same for the rule of a rank; a rule on pairs or on trucks has no place here.
+    fn rank_place(self, rank: usize, n: u32) -> Option<Place>
+        requires { ItemNumber (instance_of self.manifest.table) n × (rank < rule_count) }
+        ensures { result ≡ lowest_in (with_item (instance_of self.entry.manifest.table) (listed_stack self.entry) n (rule_at rank)) }
+    {
+        let rule = rule_at(rank);
+        match rule {
+            Rule::OfStacks(each) => self.stack_place(each, n),
+            Rule::OfPairs(_) => None,
+            Rule::OfTrucks(_) => None,
+        }
+    }
+
+    // The first rule that the stack breaks by itself or with its item n.
+    fn breach_with_item(self, n: u32) -> Option<Breach>
+        requires { ItemNumber (instance_of self.manifest.table) n }
+        ensures { FirstOf (with_item (instance_of self.entry.manifest.table) (listed_stack self.entry) n) result }
+    {
+        for rank in 0..RULES {
+            if let Some(place) = self.rank_place(rank, n) {
+                return Some(Breach { rank, place });
+            }
+        }
+        None
+    }
+
+    // The first rule on stacks that the stack breaks, with its lowest place there. No rule is asked by itself where all are kept,
+    // as they mostly are.
+    fn breach(self) -> Option<Breach>
+        ensures { FirstOnStacks (instance_of self.entry.manifest.table) (listed_stack self.entry ∷ []) result }
+    {
+        let own = self.own_rules_kept();
+        let s = self.row().index as usize;
+        let items = self.manifest.table.load(s);
+        let mut first = None;
+        for j in (0..items.len()).rev() {
+            let n = items[j];
             let item = LoadedItem {
-                table: manifest.table,
-                place: row.index as usize,
+                table: self.manifest.table,
+                place: s,
                 number: n,
             };
-            place_if(!item.keeps(each), row.number, n, 0)
+            if !(own & item.keeps_rules()) {
+                first = lower_of(self.breach_with_item(n), first);
+            }
         }
-        StackRule::Own(own) => own_place(own, manifest, k),
+        first
     }
-}
-
-// The same for the rule of a rank; a rule on pairs or on trucks has no place here.
-fn rank_place(rank: usize, manifest: Manifest<'_>, k: usize, n: u32) -> Option<Place>
-    requires { (k < length (stacks_of manifest.table)) × ItemNumber (instance_of manifest.table) n × (rank < rule_count) }
-    ensures { result ≡ lowest_in (with_item (instance_of manifest.entry.table) (manifest_at (stacks_of manifest.entry.table) k) n (rule_at rank)) }
-{
-    let rule = rule_at(rank);
-    match rule {
-        Rule::OfStacks(each) => stack_place(each, manifest, k, n),
-        Rule::OfPairs(_) => None,
-        Rule::OfTrucks(_) => None,
-    }
-}
-
-// The first rule that the stack at place k breaks by itself or with its item n.
-fn breach_with_item(manifest: Manifest<'_>, k: usize, n: u32) -> Option<Breach>
-    requires { (k < length (stacks_of manifest.table)) × ItemNumber (instance_of manifest.table) n }
-    ensures { FirstOf (with_item (instance_of manifest.entry.table) (manifest_at (stacks_of manifest.entry.table) k) n) result }
-{
-    for rank in 0..RULES {
-        if let Some(place) = rank_place(rank, manifest, k, n) {
-            return Some(Breach { rank, place });
-        }
-    }
-    None
-}
-
-// The first rule on stacks that the stack at place k breaks, with its lowest place there. No rule is asked by itself where all are kept,
-// as they mostly are.
-fn stack_breach(manifest: Manifest<'_>, k: usize) -> Option<Breach>
-    requires { k < length (stacks_of manifest.table) }
-    ensures { FirstOnStacks (instance_of manifest.entry.table) (manifest_at (stacks_of manifest.entry.table) k ∷ []) result }
-{
-    let own = own_rules_kept(manifest, k);
-    let s = stack_row(manifest, k).index as usize;
-    let items = manifest.table.load(s);
-    let mut first = None;
-    for j in (0..items.len()).rev() {
-        let n = items[j];
-        let item = LoadedItem {
-            table: manifest.table,
-            place: s,
-            number: n,
-        };
-        if !(own & item.keeps_rules()) {
-            first = lower_of(breach_with_item(manifest, k, n), first);
-        }
-    }
-    first
 }
 
 // The first rule on stacks that the plan breaks, with its lowest place.
@@ -383,7 +379,7 @@ pub fn first_on_stacks(manifest: Manifest<'_>) -> Option<Breach>
 {
     let mut first = None;
     for k in (0..manifest.table.stack_count()).rev() {
-        first = lower_of(stack_breach(manifest, k), first);
+        first = lower_of(ListedStack { manifest, at: k }.breach(), first);
     }
     first
 }
