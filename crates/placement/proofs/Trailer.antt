@@ -26,9 +26,11 @@ module _ {rows : List Row} {on : Block} {along : List ℕ} (h : RowsByX rows on 
   pub nth_room : place_at on along k < length rows
   nth_room = omega (arith, place_within h.sorted k inside, h.truck.room)
 
+  -- its place is a small number
   pub nth_few : place_at on along k < 16777216
   nth_few = omega (arith, place_within h.sorted k inside, h.truck.few)
 
+  -- and is one of the places of the block
   pub nth_listed : In (place_at on along k) (up_from on.start (on.end - on.start))
   nth_listed = (in_up_from on.start (on.end - on.start) (place_at on along k)).1 (omega (arith, place_within h.sorted k inside))
 

@@ -1,14 +1,11 @@
 -- `Trailer::placement`: the stacks are taken from the last along the trailer to the first; then the order is asked, where no two overlap.
 use mathlib.Core.Path.{refl, ap}
 use Rattle.manifest.specs.declared.row.Row.{Row}
-use Rattle.placement.proofs.Walk.{next_inside, placed_start, clear_asked, overlap_known, placed_apart, placed_overlap}
+use Rattle.placement.proofs.Walk.{placed_start, clear_asked, overlap_known, placed_apart, placed_overlap}
 use Rattle.placement.proofs.along.Trailer.placement.Goals as goal
 
 pub loop-k-init : goal.loop-k-init
 loop-k-init c = placed_start c.args.self.sorted
-
-pub row-requires : goal.row-requires
-row-requires c = next_inside c.loop-k.invariant c.loop-k-test.true
 
 pub loop-k-preserved-then-apart : goal.loop-k-preserved-then-apart
 loop-k-preserved-then-apart c =
