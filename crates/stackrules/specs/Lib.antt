@@ -1,1 +1,3 @@
 pub mod StackRules
+pub mod Props
+pub mod Loaded

@@ -3,19 +3,20 @@
 #![tactic(auto)]
 
 ghost use Rattle.std.specs.Prelude.{[], ◌≡◌, ◌↔◌, true, not, cond, ◌∷◌, ◌+◌, ◌*◌, ◌≤◌, ◌<◌, leb, eqb, length, get_or};
-ghost use Rattle.meaning.specs.Model.{item};
 ghost use Rattle.meaning.specs.Measures.{bottom};
 ghost use Rattle.meaning.specs.Rules.{not_once, plant_matches, product_carried, supplier_visited, arrives_in_window, docks_served};
 ghost use Rattle.meaning.specs.Rules.{stackable, orientation_kept};
-ghost use Rattle.table.specs.Filled.{stack_at, ItemNumber};
+ghost use Rattle.table.specs.Filled.{ItemNumber};
 ghost use Rattle.search.specs.Lowest.{lowest_in};
 ghost use Rattle.rules.specs.declared.Rule.TheVariants.{OfStacks};
 ghost use Rattle.rules.specs.LoadingRules.{item_test, rule_count, rule_at};
-ghost use Rattle.manifest.specs.Manifest.{manifest_at};
 ghost use Rattle.stackrules.specs.StackRules.{every_item_test, own_places, OwnRulesKept, with_item, FirstOf, FirstOnStacks};
 ghost use Rattle.stackrules.specs.StackRules.{RowOfStack, Countable, Counted, Tally};
+ghost use Rattle.stackrules.specs.Loaded.{listed_stack, stack_of, item_of};
 ghost use Rattle.table.specs.Held.{instance_of, stacks_of};
 
+use listed_stack::ListedStack;
+use loaded_item::LoadedItem;
 use manifest::{Manifest, Row};
 use meaning::Place;
 use rules::{ItemRule, OwnRule, RULES, Rule, StackRule, rule_at};
@@ -29,6 +30,9 @@ use views::{
     StackLoad, bottom_field, plant_dock_order, stack_truck_field, supplier_dock_order,
     supplier_order,
 };
+
+mod listed_stack;
+mod loaded_item;
 
 // ---- 9, not once
 
@@ -69,165 +73,102 @@ pub fn lowest_not_once(table: Table<'_>, times: &mut [u32]) -> Option<Place>
 
 // ---- the rules on each item of a stack: 10 to 15 and 18
 
-// 10 plant, I2: the truck goes to the item's plant.
-fn plant_matches(table: Table<'_>, s: usize, n: u32) -> bool
-    requires { (s < length (stacks_of table)) × ItemNumber (instance_of table) n }
-    ensures { result ≡ plant_matches (instance_of table.entry) (stack_at (stacks_of table.entry) s)
-        (item (instance_of table.entry) n) }
-{
-    table.item_field(n, IP) == stack_truck_field(table, s, TP)
-}
+impl<'a> LoadedItem<'a> {
+    // 10 plant, I2: the truck goes to the item's plant.
+    fn plant_matches(self) -> bool
+        ensures { result ≡ plant_matches (instance_of self.entry.table) (stack_of self.entry) (item_of self.entry) }
+    {
+        self.table.item_field(self.number, IP) == stack_truck_field(self.table, self.place, TP)
+    }
 
-// 11 product, I3: the truck takes the item's product.
-fn product_carried(table: Table<'_>, s: usize, n: u32) -> bool
-    requires { (s < length (stacks_of table)) × ItemNumber (instance_of table) n }
-    ensures { result ≡ product_carried (instance_of table.entry) (stack_at (stacks_of table.entry) s)
-        (item (instance_of table.entry) n) }
-{
-    let list = table.products(table.stack_truck(s));
-    is_listed(list, table.item_field(n, IR))
-}
+    // 11 product, I3: the truck takes the item's product.
+    fn product_carried(self) -> bool
+        ensures { result ≡ product_carried (instance_of self.entry.table) (stack_of self.entry) (item_of self.entry) }
+    {
+        let list = self.table.products(self.table.stack_truck(self.place));
+        is_listed(list, self.table.item_field(self.number, IR))
+    }
 
-// 12 supplier, I4: the truck stops at the item's supplier.
-fn supplier_visited(table: Table<'_>, s: usize, n: u32) -> bool
-    requires { (s < length (stacks_of table)) × ItemNumber (instance_of table) n }
-    ensures { result ≡ supplier_visited (instance_of table.entry) (stack_at (stacks_of table.entry) s)
-        (item (instance_of table.entry) n) }
-{
-    let truck = table.stack_truck(s);
-    1 <= supplier_order(table, truck, table.item_field(n, IU))
-}
+    // 12 supplier, I4: the truck stops at the item's supplier.
+    fn supplier_visited(self) -> bool
+        ensures { result ≡ supplier_visited (instance_of self.entry.table) (stack_of self.entry) (item_of self.entry) }
+    {
+        let truck = self.table.stack_truck(self.place);
+        1 <= supplier_order(self.table, truck, self.table.item_field(self.number, IU))
+    }
 
-// 13 day, I5: the truck arrives within the item's days.
-fn arrives_in_window(table: Table<'_>, s: usize, n: u32) -> bool
-    requires { (s < length (stacks_of table)) × ItemNumber (instance_of table) n }
-    ensures { result ≡ arrives_in_window (instance_of table.entry) (stack_at (stacks_of table.entry) s)
-        (item (instance_of table.entry) n) }
-{
-    let day = stack_truck_field(table, s, TDA);
-    (table.item_field(n, IDE) <= day) & (day <= table.item_field(n, IDL))
-}
+    // 13 day, I5: the truck arrives within the item's days.
+    fn arrives_in_window(self) -> bool
+        ensures { result ≡ arrives_in_window (instance_of self.entry.table) (stack_of self.entry) (item_of self.entry) }
+    {
+        let day = stack_truck_field(self.table, self.place, TDA);
+        (self.table.item_field(self.number, IDE) <= day)
+            & (day <= self.table.item_field(self.number, IDL))
+    }
 
-// 14 dock: both docks of the item are listed.
-fn docks_served(table: Table<'_>, s: usize, n: u32) -> bool
-    requires { (s < length (stacks_of table)) × ItemNumber (instance_of table) n }
-    ensures { result ≡ docks_served (instance_of table.entry) (stack_at (stacks_of table.entry) s)
-        (item (instance_of table.entry) n) }
-{
-    let truck = table.stack_truck(s);
-    (1 <= supplier_dock_order(table, truck, n)) & (1 <= plant_dock_order(table, truck, n))
-}
+    // 14 dock: both docks of the item are listed.
+    fn docks_served(self) -> bool
+        ensures { result ≡ docks_served (instance_of self.entry.table) (stack_of self.entry) (item_of self.entry) }
+    {
+        let truck = self.table.stack_truck(self.place);
+        (1 <= supplier_dock_order(self.table, truck, self.number))
+            & (1 <= plant_dock_order(self.table, truck, self.number))
+    }
 
-// Whether an item has the bottom item's value in a field.
-fn matches_bottom(table: Table<'_>, s: usize, n: u32, field: usize) -> bool
-    requires { (s < length (stacks_of table)) × ItemNumber (instance_of table) n × (field < 16) }
-    ensures { result ≡ eqb (get_or (item (instance_of table.entry) n) field 0)
-        (get_or (bottom (instance_of table.entry) (stack_at (stacks_of table.entry) s)) field 0) }
-{
-    table.item_field(n, field) == bottom_field(table, s, field)
-}
+    // Whether an item has the bottom item's value in a field.
+    fn matches_bottom(self, field: usize) -> bool
+        requires { field < 16 }
+        ensures { result ≡ eqb (get_or (item_of self.entry) field 0)
+            (get_or (bottom (instance_of self.entry.table) (stack_of self.entry)) field 0) }
+    {
+        self.table.item_field(self.number, field) == bottom_field(self.table, self.place, field)
+    }
 
-// 15 mixed, S1: supplier, plant, code, maximal stackability and supplier dock are the bottom item's.
-fn is_stackable(table: Table<'_>, s: usize, n: u32) -> bool
-    requires { (s < length (stacks_of table)) × ItemNumber (instance_of table) n }
-    ensures { result ≡ stackable (instance_of table.entry) (stack_at (stacks_of table.entry) s)
-        (item (instance_of table.entry) n) }
-{
-    (((matches_bottom(table, s, n, IU) & matches_bottom(table, s, n, IP))
-        & matches_bottom(table, s, n, IS))
-        & matches_bottom(table, s, n, ISM))
-        & matches_bottom(table, s, n, IK)
-}
+    // 15 mixed, S1: supplier, plant, code, maximal stackability and supplier dock are the bottom item's.
+    fn is_stackable(self) -> bool
+        ensures { result ≡ stackable (instance_of self.entry.table) (stack_of self.entry) (item_of self.entry) }
+    {
+        (((self.matches_bottom(IU) & self.matches_bottom(IP)) & self.matches_bottom(IS))
+            & self.matches_bottom(ISM))
+            & self.matches_bottom(IK)
+    }
 
-// 18 turned, S4: a forced orientation is the stack's.
-fn orientation_kept(table: Table<'_>, s: usize, n: u32) -> bool
-    requires { (s < length (stacks_of table)) × ItemNumber (instance_of table) n }
-    ensures { result ≡ orientation_kept (instance_of table.entry) (stack_at (stacks_of table.entry) s)
-        (item (instance_of table.entry) n) }
-{
-    let forced = table.item_field(n, IO);
-    (forced == 0) | (forced == table.stack_field(s, ORIENTATION))
-}
+    // 18 turned, S4: a forced orientation is the stack's.
+    fn orientation_kept(self) -> bool
+        ensures { result ≡ orientation_kept (instance_of self.entry.table) (stack_of self.entry) (item_of self.entry) }
+    {
+        let forced = self.table.item_field(self.number, IO);
+        (forced == 0) | (forced == self.table.stack_field(self.place, ORIENTATION))
+    }
 
-// Whether an item of a stack keeps a rule.
-fn item_kept(rule: ItemRule, table: Table<'_>, s: usize, n: u32) -> bool
-    requires { (s < length (stacks_of table)) × ItemNumber (instance_of table) n }
-    ensures { result ≡ item_test rule (instance_of table.entry) (stack_at (stacks_of table.entry) s)
-        (item (instance_of table.entry) n) }
-{
-    match rule {
-        ItemRule::Plant => plant_matches(table, s, n),
-        ItemRule::Product => product_carried(table, s, n),
-        ItemRule::Supplier => supplier_visited(table, s, n),
-        ItemRule::Day => arrives_in_window(table, s, n),
-        ItemRule::Dock => docks_served(table, s, n),
-        ItemRule::Mixed => is_stackable(table, s, n),
-        ItemRule::Turned => orientation_kept(table, s, n),
+    // Whether an item of a stack keeps a rule.
+    fn keeps(self, rule: ItemRule) -> bool
+        ensures { result ≡ item_test rule (instance_of self.entry.table) (stack_of self.entry) (item_of self.entry) }
+    {
+        match rule {
+            ItemRule::Plant => self.plant_matches(),
+            ItemRule::Product => self.product_carried(),
+            ItemRule::Supplier => self.supplier_visited(),
+            ItemRule::Day => self.arrives_in_window(),
+            ItemRule::Dock => self.docks_served(),
+            ItemRule::Mixed => self.is_stackable(),
+            ItemRule::Turned => self.orientation_kept(),
+        }
+    }
+
+    // Whether an item of a stack keeps every rule on items.
+    fn keeps_rules(self) -> bool
+        ensures { result ≡ every_item_test (instance_of self.entry.table) (stack_of self.entry) (item_of self.entry) }
+    {
+        (((((self.plant_matches() & self.product_carried()) & self.supplier_visited())
+            & self.arrives_in_window())
+            & self.docks_served())
+            & self.is_stackable())
+            & self.orientation_kept()
     }
 }
 
-// Whether an item of a stack keeps every rule on items.
-fn item_keeps_rules(table: Table<'_>, s: usize, n: u32) -> bool
-    requires { (s < length (stacks_of table)) × ItemNumber (instance_of table) n }
-    ensures { result ≡ every_item_test (instance_of table.entry) (stack_at (stacks_of table.entry) s)
-        (item (instance_of table.entry) n) }
-{
-    (((((plant_matches(table, s, n) & product_carried(table, s, n)) & supplier_visited(table, s, n))
-        & arrives_in_window(table, s, n))
-        & docks_served(table, s, n))
-        & is_stackable(table, s, n))
-        & orientation_kept(table, s, n)
-}
-
-// ---- the rules on the stack itself: 16 and 19 to 22. Each function answers where the stack at place k of the rows breaks its rule
-
-// The row of the stack at place k, with what the table has of it.
-fn stack_row(manifest: Manifest<'_>, k: usize) -> Row
-    requires { k < length (stacks_of manifest.table) }
-    ensures { RowOfStack (instance_of manifest.entry.table) (stacks_of manifest.entry.table) k result }
-{
-    manifest.rows[k]
-}
-
-// 16 docks, S2 and S3: one plant dock; where the truck's flag is set also two, if they are consecutive.
-fn docks_place(manifest: Manifest<'_>, k: usize) -> Option<Place>
-    requires { k < length (stacks_of manifest.table) }
-    ensures { result ≡ lowest_in (own_places OwnRule.Docks (instance_of manifest.entry.table) (manifest_at (stacks_of manifest.entry.table) k)) }
-{
-    let row = stack_row(manifest, k);
-    let count = row.plant_docks;
-    let two_docks = manifest.table.truck_field(row.truck, TF) == 1;
-    let consecutive = (count == 2) & (row.rank.lowest + 1 == row.rank.highest);
-    let allowed = (count <= 1) | (two_docks & consecutive);
-    place_if(!allowed, row.number, count, 0)
-}
-
-// 19 top heavy, S5: the weight above the bottom item is within the truck's limit.
-fn top_heavy_place(manifest: Manifest<'_>, k: usize) -> Option<Place>
-    requires { k < length (stacks_of manifest.table) }
-    ensures { result ≡ lowest_in (own_places OwnRule.TopHeavy (instance_of manifest.entry.table) (manifest_at (stacks_of manifest.entry.table) k)) }
-{
-    let row = stack_row(manifest, k);
-    let load = StackLoad {
-        table: manifest.table,
-        items: manifest.table.load(row.index as usize),
-    };
-    let above = load.sum(1, IM);
-    let within = above <= manifest.table.truck_field(row.truck, TOP_LIMIT);
-    place_if(!within, row.number, above, 0)
-}
-
-// 20 too many, S6: no more items than the maximal stackability.
-fn too_many_place(manifest: Manifest<'_>, k: usize) -> Option<Place>
-    requires { k < length (stacks_of manifest.table) }
-    ensures { result ≡ lowest_in (own_places OwnRule.TooMany (instance_of manifest.entry.table) (manifest_at (stacks_of manifest.entry.table) k)) }
-{
-    let row = stack_row(manifest, k);
-    let items = manifest.table.load(row.index as usize);
-    let count = items.len() as u32;
-    let within = count <= manifest.table.item_field(items[0], ISM);
-    place_if(!within, row.number, count, 0)
-}
+// ---- the rules on the stack itself: 16 and 19 to 22. Each method of a listed stack answers where it breaks its rule
 
 // Whether a stack of this weight in kilograms keeps the density limit, in kilograms per square metre, on this ground in square millimetres.
 fn density_kept(weight: u32, limit: u32, length: u32, width: u32) -> bool
@@ -235,20 +176,6 @@ fn density_kept(weight: u32, limit: u32, length: u32, width: u32) -> bool
     ensures { result ≡ leb (weight * 1000000) (limit * length * width) }
 {
     (weight as u64) * 1000000 <= (limit as u64) * (length as u64) * (width as u64)
-}
-
-// 21 dense, S7: the weight on the ground is within the truck's density limit.
-fn dense_place(manifest: Manifest<'_>, k: usize) -> Option<Place>
-    requires { k < length (stacks_of manifest.table) }
-    ensures { result ≡ lowest_in (own_places OwnRule.Dense (instance_of manifest.entry.table) (manifest_at (stacks_of manifest.entry.table) k)) }
-{
-    let row = stack_row(manifest, k);
-    let s = row.index as usize;
-    let length = bottom_field(manifest.table, s, IL);
-    let width = bottom_field(manifest.table, s, IW);
-    let limit = manifest.table.truck_field(row.truck, TEM);
-    let kept = density_kept(row.weight, limit, length, width);
-    place_if(!kept, row.number, row.weight, 0)
 }
 
 // The lowest dimension that does not fit: 1 length, 2 width, 3 height. The two tests say whether length and width fit.
@@ -264,50 +191,106 @@ fn exceeded_side(length: bool, width: bool) -> u32
     3
 }
 
-// 22 outside, P1: the stack is within the trailer.
-fn outside_place(manifest: Manifest<'_>, k: usize) -> Option<Place>
-    requires { k < length (stacks_of manifest.table) }
-    ensures { result ≡ lowest_in (own_places OwnRule.Outside (instance_of manifest.entry.table) (manifest_at (stacks_of manifest.entry.table) k)) }
-{
-    let row = stack_row(manifest, k);
-    let load = StackLoad {
-        table: manifest.table,
-        items: manifest.table.load(row.index as usize),
-    };
-    let size = load.size();
-    let within_length = row.footprint.xe <= manifest.table.truck_field(row.truck, TL);
-    let within_width = row.footprint.ye <= manifest.table.truck_field(row.truck, TW);
-    let within_height = size.height <= manifest.table.truck_field(row.truck, TH);
-    let inside = (within_length & within_width) & within_height;
-    let side = exceeded_side(within_length, within_width);
-    place_if(!inside, row.number, side, 0)
-}
-
-// Where the stack at place k breaks a rule on itself.
-fn own_place(rule: OwnRule, manifest: Manifest<'_>, k: usize) -> Option<Place>
-    requires { k < length (stacks_of manifest.table) }
-    ensures { result ≡ lowest_in (own_places rule (instance_of manifest.entry.table) (manifest_at (stacks_of manifest.entry.table) k)) }
-{
-    match rule {
-        OwnRule::Docks => docks_place(manifest, k),
-        OwnRule::TopHeavy => top_heavy_place(manifest, k),
-        OwnRule::TooMany => too_many_place(manifest, k),
-        OwnRule::Dense => dense_place(manifest, k),
-        OwnRule::Outside => outside_place(manifest, k),
+impl<'a> ListedStack<'a> {
+    // Its row, with what the table has of it.
+    fn row(self) -> Row
+        ensures { RowOfStack (instance_of self.entry.manifest.table) (stacks_of self.entry.manifest.table) self.entry.at result }
+    {
+        self.manifest.rows[self.at]
     }
-}
 
-// Whether the stack at place k keeps every rule on the stack itself.
-fn own_rules_kept(manifest: Manifest<'_>, k: usize) -> bool
-    requires { k < length (stacks_of manifest.table) }
-    ensures { (result ≡ true) ↔ OwnRulesKept (instance_of manifest.entry.table) (manifest_at (stacks_of manifest.entry.table) k) }
-{
-    let docks = docks_place(manifest, k).is_none();
-    let top = top_heavy_place(manifest, k).is_none();
-    let count = too_many_place(manifest, k).is_none();
-    let density = dense_place(manifest, k).is_none();
-    let ground = outside_place(manifest, k).is_none();
-    (((docks & top) & count) & density) & ground
+    // 16 docks, S2 and S3: one plant dock; where the truck's flag is set also two, if they are consecutive.
+    fn docks_place(self) -> Option<Place>
+        ensures { result ≡ lowest_in (own_places OwnRule.Docks (instance_of self.entry.manifest.table) (listed_stack self.entry)) }
+    {
+        let row = self.row();
+        let count = row.plant_docks;
+        let two_docks = self.manifest.table.truck_field(row.truck, TF) == 1;
+        let consecutive = (count == 2) & (row.rank.lowest + 1 == row.rank.highest);
+        let allowed = (count <= 1) | (two_docks & consecutive);
+        place_if(!allowed, row.number, count, 0)
+    }
+
+    // 19 top heavy, S5: the weight above the bottom item is within the truck's limit.
+    fn top_heavy_place(self) -> Option<Place>
+        ensures { result ≡ lowest_in (own_places OwnRule.TopHeavy (instance_of self.entry.manifest.table) (listed_stack self.entry)) }
+    {
+        let row = self.row();
+        let load = StackLoad {
+            table: self.manifest.table,
+            items: self.manifest.table.load(row.index as usize),
+        };
+        let above = load.sum(1, IM);
+        let within = above <= self.manifest.table.truck_field(row.truck, TOP_LIMIT);
+        place_if(!within, row.number, above, 0)
+    }
+
+    // 20 too many, S6: no more items than the maximal stackability.
+    fn too_many_place(self) -> Option<Place>
+        ensures { result ≡ lowest_in (own_places OwnRule.TooMany (instance_of self.entry.manifest.table) (listed_stack self.entry)) }
+    {
+        let row = self.row();
+        let items = self.manifest.table.load(row.index as usize);
+        let count = items.len() as u32;
+        let within = count <= self.manifest.table.item_field(items[0], ISM);
+        place_if(!within, row.number, count, 0)
+    }
+
+    // 21 dense, S7: the weight on the ground is within the truck's density limit.
+    fn dense_place(self) -> Option<Place>
+        ensures { result ≡ lowest_in (own_places OwnRule.Dense (instance_of self.entry.manifest.table) (listed_stack self.entry)) }
+    {
+        let row = self.row();
+        let s = row.index as usize;
+        let length = bottom_field(self.manifest.table, s, IL);
+        let width = bottom_field(self.manifest.table, s, IW);
+        let limit = self.manifest.table.truck_field(row.truck, TEM);
+        let kept = density_kept(row.weight, limit, length, width);
+        place_if(!kept, row.number, row.weight, 0)
+    }
+
+    // 22 outside, P1: the stack is within the trailer.
+    fn outside_place(self) -> Option<Place>
+        ensures { result ≡ lowest_in (own_places OwnRule.Outside (instance_of self.entry.manifest.table) (listed_stack self.entry)) }
+    {
+        let row = self.row();
+        let load = StackLoad {
+            table: self.manifest.table,
+            items: self.manifest.table.load(row.index as usize),
+        };
+        let size = load.size();
+        let within_length = row.footprint.xe <= self.manifest.table.truck_field(row.truck, TL);
+        let within_width = row.footprint.ye <= self.manifest.table.truck_field(row.truck, TW);
+        let within_height = size.height <= self.manifest.table.truck_field(row.truck, TH);
+        let inside = (within_length & within_width) & within_height;
+        let side = exceeded_side(within_length, within_width);
+        place_if(!inside, row.number, side, 0)
+    }
+
+    // Where the stack breaks a rule on itself.
+    fn own_place(self, rule: OwnRule) -> Option<Place>
+        ensures { result ≡ lowest_in (own_places rule (instance_of self.entry.manifest.table) (listed_stack self.entry)) }
+    {
+        match rule {
+            OwnRule::Docks => self.docks_place(),
+            OwnRule::TopHeavy => self.top_heavy_place(),
+            OwnRule::TooMany => self.too_many_place(),
+            OwnRule::Dense => self.dense_place(),
+            OwnRule::Outside => self.outside_place(),
+        }
+    }
+
+    // Whether the stack keeps every rule on the stack itself.
+    fn own_rules_kept(self) -> bool
+        ensures { (result ≡ true) ↔ OwnRulesKept (instance_of self.entry.manifest.table) (listed_stack self.entry) }
+    {
+        let docks = self.docks_place().is_none();
+        let top = self.top_heavy_place().is_none();
+        let count = self.too_many_place().is_none();
+        let density = self.dense_place().is_none();
+        let ground = self.outside_place().is_none();
+        (((docks & top) & count) & density) & ground
+    }
 }
 
 // ---- the first rule on stacks that is broken
@@ -320,64 +303,74 @@ pub struct Breach {
     pub place: Place,
 }
 
-// Where the stack at place k breaks a rule on itself, or with its item n a rule on items.
-fn stack_place(rule: StackRule, manifest: Manifest<'_>, k: usize, n: u32) -> Option<Place>
-    requires { (k < length (stacks_of manifest.table)) × ItemNumber (instance_of manifest.table) n }
-    ensures { result ≡ lowest_in (with_item (instance_of manifest.entry.table) (manifest_at (stacks_of manifest.entry.table) k) n (OfStacks rule)) }
-{
-    match rule {
-        StackRule::EachItem(each) => {
-            let row = stack_row(manifest, k);
-            let kept = item_kept(each, manifest.table, row.index as usize, n);
-            place_if(!kept, row.number, n, 0)
-        }
-        StackRule::Own(own) => own_place(own, manifest, k),
-    }
-}
-
-// The same for the rule of a rank; a rule on pairs or on trucks has no place here.
-fn rank_place(rank: usize, manifest: Manifest<'_>, k: usize, n: u32) -> Option<Place>
-    requires { (k < length (stacks_of manifest.table)) × ItemNumber (instance_of manifest.table) n × (rank < rule_count) }
-    ensures { result ≡ lowest_in (with_item (instance_of manifest.entry.table) (manifest_at (stacks_of manifest.entry.table) k) n (rule_at rank)) }
-{
-    let rule = rule_at(rank);
-    match rule {
-        Rule::OfStacks(each) => stack_place(each, manifest, k, n),
-        Rule::OfPairs(_) => None,
-        Rule::OfTrucks(_) => None,
-    }
-}
-
-// The first rule that the stack at place k breaks by itself or with its item n.
-fn breach_with_item(manifest: Manifest<'_>, k: usize, n: u32) -> Option<Breach>
-    requires { (k < length (stacks_of manifest.table)) × ItemNumber (instance_of manifest.table) n }
-    ensures { FirstOf (with_item (instance_of manifest.entry.table) (manifest_at (stacks_of manifest.entry.table) k) n) result }
-{
-    for rank in 0..RULES {
-        if let Some(place) = rank_place(rank, manifest, k, n) {
-            return Some(Breach { rank, place });
+impl<'a> ListedStack<'a> {
+    // Where the stack breaks a rule on itself, or with its item n a rule on items.
+    fn stack_place(self, rule: StackRule, n: u32) -> Option<Place>
+        requires { ItemNumber (instance_of self.manifest.table) n }
+        ensures { result ≡ lowest_in (with_item (instance_of self.entry.manifest.table) (listed_stack self.entry) n (OfStacks rule)) }
+    {
+        match rule {
+            StackRule::EachItem(each) => {
+                let row = self.row();
+                let item = LoadedItem {
+                    table: self.manifest.table,
+                    place: row.index as usize,
+                    number: n,
+                };
+                place_if(!item.keeps(each), row.number, n, 0)
+            }
+            StackRule::Own(own) => self.own_place(own),
         }
     }
-    None
-}
 
-// The first rule on stacks that the stack at place k breaks, with its lowest place there. No rule is asked by itself where all are kept,
-// as they mostly are.
-fn stack_breach(manifest: Manifest<'_>, k: usize) -> Option<Breach>
-    requires { k < length (stacks_of manifest.table) }
-    ensures { FirstOnStacks (instance_of manifest.entry.table) (manifest_at (stacks_of manifest.entry.table) k ∷ []) result }
-{
-    let own = own_rules_kept(manifest, k);
-    let s = stack_row(manifest, k).index as usize;
-    let items = manifest.table.load(s);
-    let mut first = None;
-    for j in (0..items.len()).rev() {
-        let n = items[j];
-        if !(own & item_keeps_rules(manifest.table, s, n)) {
-            first = lower_of(breach_with_item(manifest, k, n), first);
+    // The same for the rule of a rank; a rule on pairs or on trucks has no place here.
+    fn rank_place(self, rank: usize, n: u32) -> Option<Place>
+        requires { ItemNumber (instance_of self.manifest.table) n × (rank < rule_count) }
+        ensures { result ≡ lowest_in (with_item (instance_of self.entry.manifest.table) (listed_stack self.entry) n (rule_at rank)) }
+    {
+        let rule = rule_at(rank);
+        match rule {
+            Rule::OfStacks(each) => self.stack_place(each, n),
+            Rule::OfPairs(_) => None,
+            Rule::OfTrucks(_) => None,
         }
     }
-    first
+
+    // The first rule that the stack breaks by itself or with its item n.
+    fn breach_with_item(self, n: u32) -> Option<Breach>
+        requires { ItemNumber (instance_of self.manifest.table) n }
+        ensures { FirstOf (with_item (instance_of self.entry.manifest.table) (listed_stack self.entry) n) result }
+    {
+        for rank in 0..RULES {
+            if let Some(place) = self.rank_place(rank, n) {
+                return Some(Breach { rank, place });
+            }
+        }
+        None
+    }
+
+    // The first rule on stacks that the stack breaks, with its lowest place there. No rule is asked by itself where all are kept,
+    // as they mostly are.
+    fn breach(self) -> Option<Breach>
+        ensures { FirstOnStacks (instance_of self.entry.manifest.table) (listed_stack self.entry ∷ []) result }
+    {
+        let own = self.own_rules_kept();
+        let s = self.row().index as usize;
+        let items = self.manifest.table.load(s);
+        let mut first = None;
+        for j in (0..items.len()).rev() {
+            let n = items[j];
+            let item = LoadedItem {
+                table: self.manifest.table,
+                place: s,
+                number: n,
+            };
+            if !(own & item.keeps_rules()) {
+                first = lower_of(self.breach_with_item(n), first);
+            }
+        }
+        first
+    }
 }
 
 // The first rule on stacks that the plan breaks, with its lowest place.
@@ -386,7 +379,7 @@ pub fn first_on_stacks(manifest: Manifest<'_>) -> Option<Breach>
 {
     let mut first = None;
     for k in (0..manifest.table.stack_count()).rev() {
-        first = lower_of(stack_breach(manifest, k), first);
+        first = lower_of(ListedStack { manifest, at: k }.breach(), first);
     }
     first
 }

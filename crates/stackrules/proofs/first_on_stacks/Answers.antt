@@ -13,7 +13,7 @@ pub loop-k-preserved : goal.loop-k-preserved
 loop-k-preserved c =
     let p = stacks_of c.args.manifest.table in
     let at = manifest_at_lem p (c.loop-k.k - 1) (manifest_known p c.loop-k.invariant c.loop-k-test.true) in
-    from_more no_stack c.loop-k.invariant c.loop-k-test.true (rw at c.stack_breach.ensures) c.lower_of-first.ensures
+    from_more no_stack c.loop-k.invariant c.loop-k-test.true (rw at c.breach.ensures) c.lower_of-first.ensures
 
 pub returns : goal.returns
 returns c = first_same (from_end c.loop-k.invariant c.loop-k-test.false) (λ rule on. lowest_listed _ rule on _)

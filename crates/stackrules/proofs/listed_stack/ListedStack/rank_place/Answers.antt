@@ -1,8 +1,8 @@
--- `stackrules::rank_place`: each arm has the places of its kind of rule.
+-- `ListedStack::rank_place`: each arm has the places of its kind of rule.
 use mathlib.Core.Path.{sym}
 use Rattle.search.proofs.Lowest.{lowest_none}
 use Rattle.stackrules.specs.StackRules.{with_item}
-use Rattle.stackrules.proofs.rank_place.Goals as goal
+use Rattle.stackrules.proofs.listed_stack.ListedStack.rank_place.Goals as goal
 
 pub returns-in-OfPairs : goal.returns-in-OfPairs
 unfolding with_item

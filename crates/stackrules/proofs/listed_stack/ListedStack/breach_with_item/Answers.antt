@@ -1,7 +1,7 @@
--- `stackrules::breach_with_item`: the rules are asked one after another.
+-- `ListedStack::breach_with_item`: the rules are asked one after another.
 use Rattle.stackrules.proofs.Items.{found_on_stack}
 use Rattle.stackrules.proofs.First.{kept_more, kept_broken}
-use Rattle.stackrules.proofs.breach_with_item.Goals as goal
+use Rattle.stackrules.proofs.listed_stack.ListedStack.breach_with_item.Goals as goal
 
 pub returns-in-Some : goal.returns-in-Some
 returns-in-Some c =

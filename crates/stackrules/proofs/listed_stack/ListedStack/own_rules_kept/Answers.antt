@@ -1,6 +1,6 @@
--- `stackrules::own_rules_kept`: five searches, and each finds nothing exactly where its rule is kept.
+-- `ListedStack::own_rules_kept`: five searches, and each finds nothing exactly where its rule is kept.
 use Rattle.stackrules.proofs.Kept.{nothing_told, own_told}
-use Rattle.stackrules.proofs.own_rules_kept.Goals as goal
+use Rattle.stackrules.proofs.listed_stack.ListedStack.own_rules_kept.Goals as goal
 
 pub returns : goal.returns
 returns c =

@@ -1,8 +1,0 @@
--- `stackrules::outside_place`: the tests compare the extents and the limits of rule 22.
-use Rattle.stackrules.proofs.Stacks.{outside_is}
-use Rattle.stackrules.proofs.outside_place.Goals as goal
-
-pub returns : goal.returns
-returns c =
-    outside_is c.stack_row-row.ensures c.load.ensures.0 c.size-size.ensures c.truck_field.ensures.0 c.truck_field-2.ensures.0
-    c.truck_field-3.ensures.0 c.exceeded_side-side.ensures c.place_if.ensures
