@@ -31,14 +31,15 @@ use Rattle.table.proofs.Fill.{words_filled}
 use Rattle.ranges.specs.declared.Clash.{Clash}
 use Rattle.ranges.specs.Clashes.{items_in, clash_place}
 use Rattle.ranges.proofs.Clashes.{clashes_of}
+use Rattle.std.specs.Borrow.{Bor}
 use Rattle.std.specs.Prelude.{Option as Perhaps, Ok, Err}
 use Rattle.lines.specs.declared.LineRefused.TheVariants.{WrongForm, OutOfRange}
-use Rattle.lines.specs.declared.Cursor.{Cursor}
+use Rattle.lines.specs.declared.cursor.Cursor.{Cursor}
 use Rattle.lines.specs.declared.LineValue.{LineValue}
 use Rattle.lines.specs.Progress.{Progress, at_start, reached, LineResult, progress_of, ReadInto}
 use Rattle.lines.proofs.Follow.{onward_twice}
 use Rattle.instance.specs.Words.{instance_file, instance_words}
-use Rattle.plan.specs.declared.Counts.{Counts}
+use Rattle.plan.specs.declared.counts.Counts.{Counts}
 use Rattle.plan.specs.Words.{plan_words, plan_file, PlanPromise}
 use Rattle.reading.specs.Answered.{FilesRead, refused_with, FillPromise, HoldsInstance}
 
@@ -129,14 +130,14 @@ module _ (m : Limits) (says : Reading) (t : List ℕ) where
   line_refused r verdict n e k = refused_filled r _ e (k ∙ ap (λ (l : ℕ). refused_with verdict l 0) (add-one n))
 
 -- ---- by how far the instance is read
-module _ (m : Limits) (file : List ℕ) (p : Progress) (part : List ℕ) (h : ReadInto file (instance_file m) (instance_words m) at_start p part) where
+module _ (m : Limits) (file : Bor (List ℕ)) (p : Progress) (part : List ℕ) (h : ReadInto (instance_file m) (instance_words m) (at_start file) p part) where
   -- what both files give
   abbrev both : List ℕ → Reading
-  both plan = after_instance m plan (whole_file (instance_lines m) file)
+  both plan = after_instance m plan (whole_file (instance_lines m) file.now)
 
-  instance_said : (q : Progress) → p ≡ q → whole_file (instance_lines m) file ≡ reached file h.value q
+  instance_said : (q : Progress) → p ≡ q → whole_file (instance_lines m) file.now ≡ reached h.value q
   unfolding whole_file
-  instance_said q e = sym h.says ∙ ap (reached file h.value) e
+  instance_said q e = sym h.says ∙ ap (reached h.value) e
 
   pub instance_form : (plan t : List ℕ) (r : FilesRead) (n : ℕ) → p ≡ Err (WrongForm n) → r ≡ refused_with 4 (n + 1) 0 → FillPromise m (both plan) r t
   unfolding after_instance
@@ -151,7 +152,7 @@ module _ (m : Limits) (file : List ℕ) (p : Progress) (part : List ℕ) (h : Re
     in_range_lem : InstanceMeets m h.value
     unfolding whole_file
     in_range_lem =
-        (instance_off m file h.value (whole_finds (instance_lines m 1 file) h.value (suc c.line) (drop c.at file) (sym (instance_said (Ok c) e)))).0
+        (instance_off m file.now h.value (whole_finds (instance_lines m 1 file.now) h.value (suc c.line) (drop c.at c.file.now) (sym (instance_said (Ok c) e)))).0
 
     module _ (zeros : List ℕ) (end : ℕ) (z : zeros ≡ replicate (named m) 0) (f : end ≡ stacks_at m) where
       placed : part ++ drop (end - 0) zeros ≡ words m h.value []
@@ -190,13 +191,13 @@ module _ (m : Limits) (i : Instance) (plan : List ℕ) (o : Option Place) (t : L
   no_clash_lem r e h = rw (← e) h
 
 -- ---- by how far the plan is read
-module _ (m : Limits) (i : Instance) (file : List ℕ) (counts : Counts) (r : LineResult ℕ) (part : List ℕ) (a : counts.items ≡ length i.items)
+module _ (m : Limits) (i : Instance) (file : Bor (List ℕ)) (counts : Counts) (r : LineResult ℕ) (part : List ℕ) (a : counts.items ≡ length i.items)
     (b : counts.trucks ≡ length i.trucks) (h : PlanPromise m counts file r part) where
   abbrev on_plan : Reading
-  on_plan = after_plan i (whole_file (plan_lines m i) file)
+  on_plan = after_plan i (whole_file (plan_lines m i) file.now)
 
-  plan_said : (q : LineResult ℕ) → r ≡ q → whole_file (plan_lines m i) file ≡ reached file h.into.value (progress_of q)
-  plan_said q e = sym (h.into.says ∙ rw (a, b) (plan_file_lem m i file)) ∙ ap (λ (x : LineResult ℕ). reached file h.into.value (progress_of x)) e
+  plan_said : (q : LineResult ℕ) → r ≡ q → whole_file (plan_lines m i) file.now ≡ reached h.into.value (progress_of q)
+  plan_said q e = sym (h.into.says ∙ rw (a, b) (plan_file_lem m i file.now)) ∙ ap (λ (x : LineResult ℕ). reached h.into.value (progress_of x)) e
 
   pub plan_form : (t : List ℕ) (answer : FilesRead) (n : ℕ) → r ≡ Err (WrongForm n) → answer ≡ refused_with 7 (n + 1) 0 → FillPromise m on_plan answer t
   unfolding after_plan

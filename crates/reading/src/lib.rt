@@ -8,16 +8,15 @@ ghost use Rattle.meaning.specs.Reader.{whole_file};
 ghost use Rattle.meaning.specs.Files.{instance_lines, plan_lines};
 ghost use Rattle.meaning.specs.Table.{instance_in};
 ghost use Rattle.meaning.specs.Check.{code_clashes, after_plan, after_clash, after_instance, read_files};
-ghost use Rattle.table.specs.Filled.{Bounded};
 ghost use Rattle.reading.specs.Answered.{number_of, refused_with, FillPromise, HoldsInstance, NamedPromise, ReadPromise};
 
 use instance::read_instance;
 use lines::LineRefused;
-use meaning::{Answer, Limits};
+use meaning::Answer;
 use plan::{Counts, read_plan};
 use ranges::lowest_clash;
-use table::layout::{HEAD_WORDS, STACK_COUNT};
-use table::{NamedWords, Table, clear, named_words, small_limits, stacks_at};
+use table::layout::{HEAD_WORDS, Layout, STACK_COUNT};
+use table::{NamedWords, Table, clear, small_limits};
 
 // ---- the refusals
 // Why files are not read, by document 01's numbers.
@@ -58,18 +57,20 @@ fn refused_line(refusal: Refusal, lines: usize) -> Result<(), Answer>
 // ---- filling the named words
 
 // The plan, once the instance is read and has no code clash.
-fn fill_plan(limits: Limits, plan: &[u8], words: &mut [u32]) -> Result<(), Answer>
-    requires { HoldsInstance limits words.old × (length words.old ≡ named limits) × (length plan.now ≤ limits.bytes) }
-    ensures { FillPromise limits (after_plan (instance_in limits words.old)
-        (whole_file (plan_lines limits (instance_in limits words.old)) plan.now)) result words.new }
+fn fill_plan(layout: Layout, plan: &[u8], words: &mut [u32]) -> Result<(), Answer>
+    requires { HoldsInstance layout.limits words.old × (length words.old ≡ named layout.limits)
+        × (length plan.now ≤ layout.limits.bytes) }
+    ensures { FillPromise layout.limits (after_plan (instance_in layout.limits words.old)
+        (whole_file (plan_lines layout.limits (instance_in layout.limits words.old)) plan.now)) result words.new }
 {
+    let limits = layout.limits;
     let table = Table {
         named: NamedWords { words, limits },
     };
     let items = table.item_count();
     let trucks = table.truck_count();
-    let from = stacks_at(limits);
-    match read_plan(limits, plan, Counts { items, trucks }, &mut words[from..]) {
+    let from = layout.stacks_at();
+    match read_plan(layout, plan, Counts { items, trucks }, &mut words[from..]) {
         Ok(stacks) => {
             words[STACK_COUNT] = stacks.value;
             Ok(())
@@ -80,32 +81,34 @@ fn fill_plan(limits: Limits, plan: &[u8], words: &mut [u32]) -> Result<(), Answe
 }
 
 // A code clash, or else the plan.
-fn fill_after_instance(limits: Limits, plan: &[u8], words: &mut [u32]) -> Result<(), Answer>
-    requires { HoldsInstance limits words.old × (length words.old ≡ named limits) × (length plan.now ≤ limits.bytes) }
-    ensures { FillPromise limits (after_clash limits (instance_in limits words.old) plan.now
-        (lowest (code_clashes (instance_in limits words.old)))) result words.new }
+fn fill_after_instance(layout: Layout, plan: &[u8], words: &mut [u32]) -> Result<(), Answer>
+    requires { HoldsInstance layout.limits words.old × (length words.old ≡ named layout.limits)
+        × (length plan.now ≤ layout.limits.bytes) }
+    ensures { FillPromise layout.limits (after_clash layout.limits (instance_in layout.limits words.old) plan.now
+        (lowest (code_clashes (instance_in layout.limits words.old)))) result words.new }
 {
+    let limits = layout.limits;
     let table = Table {
         named: NamedWords { words, limits },
     };
     let items = table.item_count();
     match lowest_clash(&words[HEAD_WORDS..], items) {
         Some(clash) => refused(Refusal::CodeClash, clash.item, clash.first),
-        None => fill_plan(limits, plan, words),
+        None => fill_plan(layout, plan, words),
     }
 }
 
 // The instance, then what depends on it.
-fn fill(limits: Limits, instance: &[u8], plan: &[u8], words: &mut [u32]) -> Result<(), Answer>
-    requires { Bounded limits × (length words.old ≡ named limits) × (length instance.now ≤ limits.bytes)
-        × (length plan.now ≤ limits.bytes) }
-    ensures { FillPromise limits (after_instance limits plan.now (whole_file (instance_lines limits) instance.now))
-        result words.new }
+fn fill(layout: Layout, instance: &[u8], plan: &[u8], words: &mut [u32]) -> Result<(), Answer>
+    requires { (length words.old ≡ named layout.limits) × (length instance.now ≤ layout.limits.bytes)
+        × (length plan.now ≤ layout.limits.bytes) }
+    ensures { FillPromise layout.limits
+        (after_instance layout.limits plan.now (whole_file (instance_lines layout.limits) instance.now)) result words.new }
 {
     clear(words);
-    let end = stacks_at(limits);
-    match read_instance(limits, instance, &mut words[0..end]) {
-        Ok(_) => fill_after_instance(limits, plan, words),
+    let end = layout.stacks_at();
+    match read_instance(layout, instance, &mut words[0..end]) {
+        Ok(_) => fill_after_instance(layout, plan, words),
         Err(LineRefused::WrongForm(lines)) => refused_line(Refusal::InstanceForm, lines),
         Err(LineRefused::OutOfRange(lines)) => refused_line(Refusal::InstanceRange, lines),
     }
@@ -114,10 +117,11 @@ fn fill(limits: Limits, instance: &[u8], plan: &[u8], words: &mut [u32]) -> Resu
 // ---- the reading call
 
 // Reads both files into the named words, which are zero after a refusal.
-fn read_named(limits: Limits, instance: &[u8], plan: &[u8], words: &mut [u32]) -> Result<(), Answer>
-    requires { Bounded limits × (length words.old ≡ named limits) }
-    ensures { NamedPromise limits (read_files limits instance.now plan.now) result words.new }
+fn read_named(layout: Layout, instance: &[u8], plan: &[u8], words: &mut [u32]) -> Result<(), Answer>
+    requires { length words.old ≡ named layout.limits }
+    ensures { NamedPromise layout.limits (read_files layout.limits instance.now plan.now) result words.new }
 {
+    let limits = layout.limits;
     if limits.bytes < instance.len() {
         clear(words);
         return refused(Refusal::InstanceOverlong, 0, 0);
@@ -126,7 +130,7 @@ fn read_named(limits: Limits, instance: &[u8], plan: &[u8], words: &mut [u32]) -
         clear(words);
         return refused(Refusal::PlanOverlong, 0, 0);
     }
-    let r = fill(limits, instance, plan, words);
+    let r = fill(layout, instance, plan, words);
     if r.is_err() {
         clear(words);
     }
@@ -135,25 +139,27 @@ fn read_named(limits: Limits, instance: &[u8], plan: &[u8], words: &mut [u32]) -
 
 // Reads both files within the limits. Only the named words change, and none of a table that is too short.
 fn read_within(
-    limits: Limits,
+    layout: Layout,
     instance: &[u8],
     plan: &[u8],
     table: &mut [u32],
 ) -> Result<(), Answer>
-    requires { Bounded limits }
-    ensures { ReadPromise limits instance.now plan.now table.old table.new result }
+    ensures { ReadPromise layout.limits instance.now plan.now table.old table.new result }
 {
-    let named = named_words(limits);
+    let named = layout.named_words();
     let lent = table.len();
     if lent < named {
         return refused(Refusal::ShortTable, 0, 0);
     }
-    read_named(limits, instance, plan, &mut table[0..named])
+    read_named(layout, instance, plan, &mut table[0..named])
 }
 
 // Reads both files into the lent table, by the limits of document 01. A table under 8,976 words is refused.
 pub fn read_files(instance: &[u8], plan: &[u8], table: &mut [u32]) -> Result<(), Answer>
     ensures { ReadPromise small instance.now plan.now table.old table.new result }
 {
-    read_within(small_limits(), instance, plan, table)
+    let layout = Layout {
+        limits: small_limits(),
+    };
+    read_within(layout, instance, plan, table)
 }

@@ -6,15 +6,15 @@ use Rattle.reading.proofs.fill.Goals as goal
 pub fill_after_instance-requires : goal.fill_after_instance-requires
 fill_after_instance-requires c = (
   instance_ready _ _ _ _ c.read_instance.ensures _ c.in-Ok.is _ _
-      (rw c.requires.1 at c.clear.ensures) c.stacks_at-end.ensures c.requires.0,
+      (rw c.requires.0 at c.clear.ensures) c.stacks_at-end.ensures c.args.layout.bounded,
   search rules,
-  c.requires.3,
+  c.requires.2,
 )
 
 pub returns-in-Ok : goal.returns-in-Ok
 returns-in-Ok c =
     instance_onward _ _ _ _ c.read_instance.ensures _ c.in-Ok.is _ _
-    (rw c.requires.1 at c.clear.ensures) c.stacks_at-end.ensures _ _ _ c.fill_after_instance.ensures
+    (rw c.requires.0 at c.clear.ensures) c.stacks_at-end.ensures _ _ _ c.fill_after_instance.ensures
 
 pub returns-in-Err-WrongForm : goal.returns-in-Err-WrongForm
 returns-in-Err-WrongForm c =

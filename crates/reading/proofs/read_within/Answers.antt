@@ -6,4 +6,4 @@ pub returns-then-lent-named : goal.returns-then-lent-named
 returns-then-lent-named c = short_read _ _ _ _ _ (rw c.named_words-named.ensures at c.if-lent-named.true) c.refused.ensures
 
 pub returns : goal.returns
-returns c = long_read _ _ _ _ c.requires _ _ _ c.named_words-named.ensures c.if-lent-named.false c.read_named.ensures
+returns c = long_read _ _ _ _ c.args.layout.bounded _ _ _ c.named_words-named.ensures c.if-lent-named.false c.read_named.ensures
