@@ -17,12 +17,6 @@ returns-in_err-products c =
     let row = upto_row c.args.part.now c.requires c.clear.ensures c.read_truck_fields.new.part c.read_truck_fields.auto.part in
     handed_on c.from_residual-in_err-products.ensures.1 (products_refused (rw c.in_ok-row.was at c.read_truck_fields.ensures) (rw (c.in_err-products.was, front_lent row.2 33 (omega arith)) at (c.counted_line.ensures "products=" refl)))
 
-pub counted_line-requires-2 : goal.counted_line-requires-2
-counted_line-requires-2 c =
-    let products = upto_products c.args.part.now c.requires c.clear.ensures c.read_truck_fields.new.part c.read_truck_fields.auto.part c.counted_line.new.out c.counted_line.auto.out in
-    let nine = front_lent products.2 9 (omega arith) in
-    (omega arith, omega arith)
-
 pub returns-in_err-suppliers : goal.returns-in_err-suppliers
 returns-in_err-suppliers c =
     let row = upto_row c.args.part.now c.requires c.clear.ensures c.read_truck_fields.new.part c.read_truck_fields.auto.part in
