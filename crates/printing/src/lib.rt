@@ -6,7 +6,7 @@ ghost use Rattle.meaning.specs.Print.{digits};
 ghost use Rattle.printing.specs.Wrote.{line_bytes};
 ghost use Rattle.printing.specs.Appended.{HasRoom, Appended};
 
-// Lent bytes, and how many of them are written, from the first on.
+// Lent bytes, and how many of them are written, from the first on. (No Vec, which would take memory: there is no heap, and the bytes are the caller's.)
 #[derive(Drop)]
 pub struct Writer<'a> {
     bytes: &'a mut [u8],

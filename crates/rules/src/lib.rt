@@ -73,7 +73,7 @@ impl Rule {
     }
 }
 
-// The verdict of rule 9, which is asked before the loading rules.
+// The verdict of rule 9, which is asked before the loading rules. It is no variant of theirs: it has no rank among them.
 pub const NOT_ONCE: u32 = 9;
 
 // How many loading rules there are. A rule's rank is its place in their order, from 0.

@@ -1,5 +1,6 @@
 // The places of the fields in their lines, by the paper's names where it has one. No other file of the code numbers a field. (TMm and TMM
-// differ in the case of a letter only, so those two have names of their own.)
+// differ in the case of a letter only, so those two have names of their own.) They are numbers and no enum: document 01 numbers the words of the table,
+// which callers in C and Rust read by them, and a row is indexed by nothing else.
 
 // ---- an item's line
 pub const IL: usize = 0; // length

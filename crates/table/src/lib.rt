@@ -106,7 +106,7 @@ pub fn is_listed(list: &[u32], identifier: u32) -> bool
     found
 }
 
-// ---- what a filled table holds. Items, trucks and stacks, and the lists of a truck, have functions of their own, each a line over a run of words:
+// ---- what a filled table holds. Coefficients, items, trucks and stacks, and the lists of a truck have functions of their own, each a line over words:
 // they promise different parts of the model, by numbers from 1 or by places from 0, and one function for all would take a trait that says the
 // part, its words, its bounds and how it is counted, which is longer than they are
 

@@ -9,7 +9,8 @@ ghost use Rattle.text.specs.Words.{lent, parsed_part, parsed_numbers, leading, p
 // The most digits of a number. A word of 64 bits holds so many with room to spare.
 const MOST_DIGITS: usize = 10;
 
-// The index of the first such byte from `from` on; the length where there is none, and `from` where that is past the end.
+// The index of the first such byte from `from` on; the length where there is none, and `from` where that is past the end. (No Option: a line ends there
+// either way, and `index_of` tells whether there is one.)
 pub fn first_byte(bytes: &[u8], from: usize, byte: u8) -> usize
     ensures { result ≡ from + count_before byte (drop from bytes.now) }
 {
@@ -74,8 +75,8 @@ struct ParsedNumber {
 }
 
 // The number at the front, which ends before a comma or where the bytes end: 1 to 10 digits, without needless leading zero. The largest word
-// stands for a number that fits none, since every range refuses it. The number is worked out on the way to its end: a second walk over the
-// digits takes time.
+// stands for a number that fits none, since every range refuses it. The number is worked out and its digits are counted on the way to its end: a
+// second walk over the digits takes time.
 fn parse_number(bytes: &[u8]) -> Option<ParsedNumber>
     ensures { result ≡ parsed_part bytes.now }
 {
