@@ -1,4 +1,5 @@
-// The two files of a filled table, written out line by line.
+// The two files of a filled table, written out line by line. Table and writer are handed on as two: a struct of both would hold a `&mut` of a struct
+// that holds one, and no call would be shorter.
 #![tactic(auto)]
 
 ghost use mathlib.Core.List.{[], ◌∷◌, flat_map};
