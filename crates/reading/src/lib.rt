@@ -20,7 +20,7 @@ use table::{NamedWords, Table, clear, small_limits};
 
 // ---- the refusals
 // Why files are not read, by document 01's numbers.
-#[derive(Clone, Copy, PartialEq, Eq)]
+#[derive(Clone, Copy)]
 enum Refusal {
     ShortTable = 1,
     InstanceOverlong = 2,
