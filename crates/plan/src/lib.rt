@@ -65,7 +65,7 @@ fn read_stack<'a>(
     layout: Layout,
     counts: Counts,
     k: usize,
-    loaded: LineValue<'a, usize>,
+    loaded: LineValue<Cursor<'a>, usize>,
     part: &mut [u32],
 ) -> LineResult<'a, usize>
     requires { (k < layout.limits.stacks) × (loaded.value ≤ layout.limits.loads)

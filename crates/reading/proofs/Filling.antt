@@ -207,7 +207,7 @@ module _ (m : Limits) (i : Instance) (file : Bor (List ℕ)) (counts : Counts) (
   unfolding after_plan
   plan_range t answer n e k = line_refused m on_plan t answer 8 n (ap (after_plan i) (plan_said (Err (OutOfRange n)) e)) k
 
-  pub plan_readable : (t : List ℕ) (from : ℕ) (f : LineValue ℕ) → InstanceMeets m i → t ≡ words m i [] → from ≡ stacks_at m → r ≡ Ok f
+  pub plan_readable : (t : List ℕ) (from : ℕ) (f : LineValue Cursor ℕ) → InstanceMeets m i → t ≡ words m i [] → from ≡ stacks_at m → r ≡ Ok f
       → FillPromise m on_plan (Ok tt) (set (put_mid from (length t - from) t part) 5 f.value)
   unfolding after_plan
   plan_readable t from found_stacks range w f e =
