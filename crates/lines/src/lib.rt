@@ -1,5 +1,6 @@
 // One line after another: each is stored, then judged by its form's ranges. Every function takes the answer so far and returns the next
-// one; a refusal that comes in goes out unchanged.
+// one; a refusal that comes in goes out unchanged. They take a `Progress`, refused or not, and no bare cursor: a caller may hand on whatever
+// it got, and a cursor alone would ask more of it.
 #![tactic(auto)]
 
 ghost use Rattle.std.specs.Prelude.{◌≡◌, ◌-◌, ◌≤◌, ◌<◌, length, IfOk};
@@ -41,7 +42,8 @@ pub struct LineValue<C, T> {
 pub type LineResult<'a, T> = Result<LineValue<Cursor<'a>, T>, LineRefused>;
 
 // A line whose numbers are stored and not yet judged: how many lines stand before it, the place behind it, and how many numbers it has.
-// Judging it hands the place on and does not look at it, so any place does.
+// Judging it hands the place on and does not look at it, so any place does. The numbers are counted and not lent again: they stand in the
+// words of the caller, who reads them and fills them further.
 #[derive(Clone, Copy)]
 pub struct Stored<C> {
     pub line: usize,
@@ -72,7 +74,8 @@ pub fn stored_line<'a>(p: Progress<'a>, key: &[u8], least: usize, out: &mut [u32
     })
 }
 
-// How many numbers are stored; none after a refusal.
+// How many numbers are stored; none after a refusal. (A number and no `Option`: a caller cuts the entries from its words by it, and after a
+// refusal it cuts none.)
 pub fn entries<C: Copy>(stored: Result<Stored<C>, LineRefused>) -> usize
     ensures { result ≡ entries_of stored }
 {
