@@ -1,6 +1,6 @@
 // One line after another: each is stored, then judged by its form's ranges. Every function takes the answer so far and returns the next
-// one; a refusal that comes in goes out unchanged. They take a `Progress`, refused or not, and no bare cursor: a caller may hand on whatever
-// it got, and a cursor alone would ask more of it.
+// one; a refusal that comes in goes out unchanged. They take a `Progress`, refused or not, and no bare cursor: a caller may hand on
+// whatever it got, and a cursor alone would ask more of it.
 #![tactic(auto)]
 
 ghost use Rattle.std.specs.Prelude.{◌≡◌, ◌-◌, ◌≤◌, ◌<◌, length, IfOk};

@@ -60,8 +60,8 @@ fn read_load<'a>(
 }
 
 // The next stack, the k-th: its line, its load, and where the load stands. What is found is how many entries the loads hold, before
-// and then with this one. (The part's length stays a clause here and below. It is a fact of words that change: a struct of them would be made
-// anew at each call, and a ghost field beside a `&mut` would be asked for again at each write.)
+// and then with this one. (The part's length stays a clause here and below. It is a fact of words that change: a struct of them would be
+// made anew at each call, and a ghost field beside a `&mut` would be asked for again at each write.)
 fn read_stack<'a>(
     layout: Layout,
     counts: Counts,

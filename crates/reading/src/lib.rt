@@ -33,8 +33,8 @@ enum Refusal {
     PlanRange = 8,
 }
 
-// A refusal with two places. It has neither cost nor trucks. (`judging` makes its own, of a rule's verdict and a place; beyond the zeros the
-// two share nothing.)
+// A refusal with two places. It has neither cost nor trucks. (`judging` makes its own, of a rule's verdict and a place; beyond the zeros
+// the two share nothing.)
 fn refused(refusal: Refusal, first: u32, second: u32) -> Result<(), Answer>
     ensures { result ≡ refused_with (number_of refusal) first second }
 {

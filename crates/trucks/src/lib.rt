@@ -18,8 +18,8 @@ use table::layout::{
 // ---- rows
 
 // So many rows of one width, one after another, each read into the part of the words that it is lent. The words behind them are zero. The
-// clause takes any reader that finds the words of a row as `read_row` does. (By place and not by `chunks_exact_mut`: of the words of its rows
-// nothing is known any more once they are handed back.)
+// clause takes any reader that finds the words of a row as `read_row` does. (By place and not by `chunks_exact_mut`: of the words of its
+// rows nothing is known any more once they are handed back.)
 pub fn read_rows<'a, F: Fn(Cursor<'a>, &mut [u32]) -> Progress<'a>>(
     here: Cursor<'a>,
     width: usize,
