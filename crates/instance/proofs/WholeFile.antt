@@ -57,7 +57,7 @@ module _ {m : Limits} {p : Progress} {a : List ℕ} where
   head_refuses {out = out} h = stopped (as_lines m {words = instance_words m} {out = out} (stopped h.into after_head no_instance)) at_end no_instance
 
   -- the counts in the head are those of the items and trucks
-  module _ {head : LineValue HeadCounts} (h : HeadPromise m p (Ok head) a) where
+  module _ {head : LineValue Cursor HeadCounts} (h : HeadPromise m p (Ok head) a) where
     abbrev numbers : HeadNumbers
     numbers = h.into.value
 

@@ -40,7 +40,7 @@ fn read_items<'a>(here: Cursor<'a>, count: usize, part: &mut [u32]) -> Progress<
 // ---- the whole file
 
 // How many items and trucks the head announces, both within the limits.
-#[derive(Clone, Copy, PartialEq, Eq)]
+#[derive(Clone, Copy)]
 pub struct HeadCounts {
     pub items: usize,
     pub trucks: usize,

@@ -12,6 +12,7 @@ use Rattle.meaning.specs.Text.{Form}
 use Rattle.meaning.specs.Reader.{Reader, line}
 use Rattle.meaning.specs.Table.{counted_words}
 use Rattle.std.specs.Prelude.{Ok, Err, IfOk, IsErrAnd}
+use Rattle.lines.specs.declared.cursor.Cursor.{Cursor}
 use Rattle.lines.specs.declared.LineRefused.{LineRefused}
 use Rattle.lines.specs.declared.LineValue.{LineValue}
 use Rattle.lines.specs.Progress.{Progress, outcome_of, LineResult, progress_of, Going, StoredLine, entries_of, HasNumbers, judged_as, judged_entries_as}
@@ -87,7 +88,7 @@ zeros_behind_lem n k out h l e =
 
 -- ---- entries and their count
 -- a line has no more entries than its form allows
-module _ (f : Form) {words : List ℕ → List ℕ} {p : Progress} {found : LineValue ℕ} {out : List ℕ}
+module _ (f : Form) {words : List ℕ → List ℕ} {p : Progress} {found : LineValue Cursor ℕ} {out : List ℕ}
     (read : ReadEntries (line f) words p (Ok found) out) where
   pub few_counted : found.value ≤ f.most
   few_counted = rw read.count (read_meets read.into.value f p (Ok found.next) read.into.says tt).most
@@ -109,7 +110,7 @@ counted c (w ∷ out) lent h =
     let none : drop (suc (length out) - 1) out ≡ [] = drop_of_length-le out end in
     ap (λ (l : List ℕ). c ∷ l) (rw none (append-nil lent))
 
-pub counted_entries : {reader : Reader (List ℕ)} (n : ℕ) {p : Progress} {found : LineValue ℕ} {lent : List ℕ} (out : List ℕ)
+pub counted_entries : {reader : Reader (List ℕ)} (n : ℕ) {p : Progress} {found : LineValue Cursor ℕ} {lent : List ℕ} (out : List ℕ)
     → 1 ≤ length out → ReadEntries reader (padded n) p (Ok found) lent
     → ReadEntries reader (counted_words n) p (Ok found) (set (put_mid 1 (length out - 1) out lent) 0 found.value)
 counted_entries n {found = found} {lent = lent} out h i =

@@ -11,6 +11,7 @@ use Rattle.meaning.specs.Reader.{Reader, give, line}
 use Rattle.meaning.specs.Files.{Range, ◌to◌, all_within, fields_line, number_line}
 use Rattle.meaning.specs.Table.{largest_word}
 use Rattle.std.specs.Prelude.{Ok, Err, IsErrAnd}
+use Rattle.lines.specs.declared.cursor.Cursor.{Cursor}
 use Rattle.lines.specs.declared.LineRefused.{LineRefused}
 use Rattle.lines.specs.declared.LineValue.{LineValue}
 use Rattle.lines.specs.Progress.{Key, Progress, outcome_of, reached, resumed, Follows, LineResult, told, progress_of, StoredLine, judged_as, StoredPromise, ReadInto}
@@ -49,7 +50,7 @@ told_refused (Err x) e h = ap outcome_of h
 
 -- a number that was read, or its line refused, for callers that go on from there. It stands in no words yet
 module _ {R : Reader ℕ} {p : Progress} {r : LineResult ℕ} where
-  abbrev pub number_read : {f : LineValue ℕ} → r ≡ Ok f → told r ≡ resumed p R → Follows p (progress_of r) → ReadInto R (λ n. []) p (Ok f.next) []
+  abbrev pub number_read : {f : LineValue Cursor ℕ} → r ≡ Ok f → told r ≡ resumed p R → Follows p (progress_of r) → ReadInto R (λ n. []) p (Ok f.next) []
   number_read {f} e says follows = record { value = f.value; says = rw e at says; holds = λ g. refl; follows = rw e at follows }
 
   pub number_refused : {e : LineRefused} → r ≡ Err e → told r ≡ resumed p R → Follows p (progress_of r) → ReadInto R (λ n. []) p (Err e) []

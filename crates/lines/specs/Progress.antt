@@ -61,14 +61,18 @@ Follows (Ok c) (Ok d) = d.file.now ≡ c.file.now
 Follows (Ok c) (Err e) = lines_before e ≤ length c.file.now
 Follows (Err e) r = r ≡ Err e
 
--- at the end of a file: a further line is one too many, which is wrong form
+-- at the end of a file of so many bytes: a further line is one too many, which is wrong form
+abbrev pub ended_at : ℕ → ℕ → ℕ → Result (Unit {0}) LineRefused
+ended_at size at line = cond (ltb at size) (Err (WrongForm line)) (Ok tt)
+
+-- the same of the file that is read
 abbrev pub ended_as : Progress → Progress
 ended_as (Ok c) = cond (ltb c.at (length c.file.now)) (Err (WrongForm c.line)) (Ok c)
 ended_as (Err e) = Err e
 
 -- ---- a value that was read, with the cursor behind it, or a refusal
 abbrev pub LineResult : Type 0 → Type 0
-LineResult A = Result (LineValue A) LineRefused
+LineResult A = Result (LineValue Cursor A) LineRefused
 
 -- how far the file is read then
 abbrev pub progress_of : {A : Type 0} → LineResult A → Progress
@@ -82,10 +86,10 @@ told (Err e) = outcome_of e
 
 -- ---- a line whose numbers are stored and not yet judged
 abbrev pub StoredLine : Type 0
-StoredLine = Result Stored LineRefused
+StoredLine = Result (Stored Cursor) LineRefused
 
--- how many they are
-abbrev pub entries_of : StoredLine → ℕ
+-- how many they are, whatever the place behind them is
+abbrev pub entries_of : {C : Type 0} → Result (Stored C) LineRefused → ℕ
 entries_of (Ok s) = s.count
 entries_of (Err e) = 0
 
@@ -95,12 +99,12 @@ HasNumbers (Ok s) = Unit {0}
 HasNumbers (Err e) = ⊥
 
 -- after the range test: "form before range"
-abbrev pub judged_as : StoredLine → Bool → Progress
+abbrev pub judged_as : {C : Type 0} → Result (Stored C) LineRefused → Bool → Result C LineRefused
 judged_as (Ok s) ok = cond ok (Ok s.next) (Err (OutOfRange s.line))
 judged_as (Err e) ok = Err e
 
 -- the same with the number of entries
-abbrev pub judged_entries_as : StoredLine → Bool → LineResult ℕ
+abbrev pub judged_entries_as : {C : Type 0} → Result (Stored C) LineRefused → Bool → Result (LineValue C ℕ) LineRefused
 judged_entries_as (Ok s) ok = cond ok (Ok (record { value = s.count; next = s.next })) (Err (OutOfRange s.line))
 judged_entries_as (Err e) ok = Err e
 

@@ -5,7 +5,7 @@ ghost use Rattle.std.specs.Prelude.{◌≡◌};
 ghost use Rattle.lines.specs.Within.{Within, within_prop};
 
 // A file, where its next line begins, and how many lines stand before it.
-#[derive(Clone, Copy, PartialEq, Eq)]
+#[derive(Clone, Copy)]
 pub struct Cursor<'a> {
     pub file: &'a [u8],
     pub at: usize,

@@ -1,5 +1,6 @@
 // One line after another: each is stored, then judged by its form's ranges. Every function takes the answer so far and returns the next
-// one; a refusal that comes in goes out unchanged.
+// one; a refusal that comes in goes out unchanged. They take a `Progress`, refused or not, and no bare cursor: a caller may hand on
+// whatever it got, and a cursor alone would ask more of it.
 #![tactic(auto)]
 
 ghost use Rattle.std.specs.Prelude.{◌≡◌, ◌-◌, ◌≤◌, ◌<◌, length, IfOk};
@@ -9,7 +10,7 @@ ghost use Rattle.meaning.specs.Reader.{line};
 ghost use Rattle.meaning.specs.Files.{identifiers_line, number_line};
 ghost use Rattle.meaning.specs.Table.{counted_words};
 ghost use Rattle.ranges.specs.Ranges.{head_range};
-ghost use Rattle.lines.specs.Progress.{Key, resumed, Follows, ended_as, progress_of, told};
+ghost use Rattle.lines.specs.Progress.{Key, resumed, Follows, ended_at, ended_as, progress_of, told};
 ghost use Rattle.lines.specs.Progress.{entries_of, judged_as, judged_entries_as, StoredPromise, ReadEntries};
 
 pub mod cursor;
@@ -21,7 +22,7 @@ use table::layout::Layout;
 use text::parse_line;
 
 // Why a line is refused, with how many lines stand before it.
-#[derive(Clone, Copy, PartialEq, Eq)]
+#[derive(Clone, Copy)]
 pub enum LineRefused {
     WrongForm(usize),
     OutOfRange(usize),
@@ -30,26 +31,28 @@ pub enum LineRefused {
 // How far a file is read: the next cursor; or the first bad line, which is wrong in form or out of range.
 pub type Progress<'a> = Result<Cursor<'a>, LineRefused>;
 
-// A value that was read, and the cursor behind its line.
-#[derive(Clone, Copy, PartialEq, Eq)]
-pub struct LineValue<'a, T> {
+// A value that was read, and the place behind its line.
+#[derive(Clone, Copy)]
+pub struct LineValue<C, T> {
     pub value: T,
-    pub next: Cursor<'a>,
+    pub next: C,
 }
 
-// A value that was read, or why its line is refused.
-pub type LineResult<'a, T> = Result<LineValue<'a, T>, LineRefused>;
+// A value that was read up to a cursor, or why its line is refused.
+pub type LineResult<'a, T> = Result<LineValue<Cursor<'a>, T>, LineRefused>;
 
-// A line whose numbers are stored and not yet judged: how many lines stand before it, the cursor behind it, and how many numbers it has.
-#[derive(Clone, Copy, PartialEq, Eq)]
-pub struct Stored<'a> {
+// A line whose numbers are stored and not yet judged: how many lines stand before it, the place behind it, and how many numbers it has.
+// Judging it hands the place on and does not look at it, so any place does. The numbers are counted and not lent again: they stand in the
+// words of the caller, who reads them and fills them further.
+#[derive(Clone, Copy)]
+pub struct Stored<C> {
     pub line: usize,
-    pub next: Cursor<'a>,
+    pub next: C,
     pub count: usize,
 }
 
-// A stored line, or why it is refused.
-pub type StoredLine<'a> = Result<Stored<'a>, LineRefused>;
+// A line that is stored up to a cursor, or why it is refused.
+pub type StoredLine<'a> = Result<Stored<Cursor<'a>>, LineRefused>;
 
 // Stores the numbers of the next line. Their ranges are not judged yet.
 pub fn stored_line<'a>(p: Progress<'a>, key: &[u8], least: usize, out: &mut [u32]) -> StoredLine<'a>
@@ -71,16 +74,20 @@ pub fn stored_line<'a>(p: Progress<'a>, key: &[u8], least: usize, out: &mut [u32
     })
 }
 
-// How many numbers are stored; none after a refusal.
-pub fn entries(stored: StoredLine<'_>) -> usize
-    ensures { result ≡ entries_of stored.entry }
+// How many numbers are stored; none after a refusal. (A number and no `Option`: a caller cuts the entries from its words by it, and after a
+// refusal it cuts none.)
+pub fn entries<C: Copy>(stored: Result<Stored<C>, LineRefused>) -> usize
+    ensures { result ≡ entries_of stored }
 {
     stored.map_or(0, |s| s.count)
 }
 
 // The stored line is passed where it is in range. A line of wrong form was refused before.
-pub fn judged<'a>(stored: StoredLine<'a>, in_range: bool) -> Progress<'a>
-    ensures { result ≡ judged_as stored.entry in_range }
+pub fn judged<C: Copy>(
+    stored: Result<Stored<C>, LineRefused>,
+    in_range: bool,
+) -> Result<C, LineRefused>
+    ensures { result ≡ judged_as stored in_range }
 {
     let s = stored?;
     if in_range {
@@ -91,24 +98,35 @@ pub fn judged<'a>(stored: StoredLine<'a>, in_range: bool) -> Progress<'a>
 }
 
 // The same with the number of entries.
-pub fn judged_entries<'a>(stored: StoredLine<'a>, in_range: bool) -> LineResult<'a, usize>
-    ensures { result ≡ judged_entries_as stored.entry in_range }
+pub fn judged_entries<C: Copy>(
+    stored: Result<Stored<C>, LineRefused>,
+    in_range: bool,
+) -> Result<LineValue<C, usize>, LineRefused>
+    ensures { result ≡ judged_entries_as stored in_range }
 {
     let next = judged(stored, in_range)?;
     let value = entries(stored);
     Ok(LineValue { value, next })
 }
 
-// The end of the file: a line too many is wrong in form.
+// The end of a file of so many bytes, behind so many lines: a line too many is wrong in form.
+pub fn end_reached(size: usize, at: usize, line: usize) -> Result<(), LineRefused>
+    ensures { result ≡ ended_at size at line }
+{
+    if at < size {
+        Err(LineRefused::WrongForm(line))
+    } else {
+        Ok(())
+    }
+}
+
+// The end of the file that is read.
 pub fn at_end<'a>(p: Progress<'a>) -> Progress<'a>
     ensures { result ≡ ended_as p.entry }
 {
     let here = p?;
-    if here.at < here.file.len() {
-        Err(LineRefused::WrongForm(here.line))
-    } else {
-        Ok(here)
-    }
+    end_reached(here.file.len(), here.at, here.line)?;
+    Ok(here)
 }
 
 // A line of distinct identifiers, at most as many as there is room for, with zeros behind them.

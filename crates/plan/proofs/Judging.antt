@@ -15,6 +15,7 @@ use Rattle.meaning.specs.Model.{stack_number}
 use Rattle.meaning.proofs.Tests.{and_reads}
 use Rattle.meaning.proofs.Fields.{ranges_below, range_below}
 use Rattle.std.specs.Prelude.{Ok, Err}
+use Rattle.lines.specs.declared.cursor.Cursor.{Cursor}
 use Rattle.lines.specs.declared.LineValue.{LineValue}
 use Rattle.lines.specs.Progress.{Progress, RefusesLargest, StoredLine, entries_of, judged_entries_as, ReadEntries}
 use Rattle.ranges.specs.Ranges.{row_numbers}
@@ -61,13 +62,13 @@ load_fits load most items loaded count h first both =
     both ∙ ap (λ (b : Bool). b && leb (loaded + count) most) first ∙ rw (length-take-le count load h) refl
 
 -- a line that is kept has the entries that were stored
-pub kept_count : (r : StoredLine) (ok : Bool) {f : LineValue ℕ} → judged_entries_as r ok ≡ Ok f → f.value ≡ entries_of r
-kept_count (Ok l) true {f} e = let same : record { value = l.count; next = l.next } ≡ f = cc in ap (λ (x : LineValue ℕ). x.value) (sym same)
+pub kept_count : (r : StoredLine) (ok : Bool) {f : LineValue Cursor ℕ} → judged_entries_as r ok ≡ Ok f → f.value ≡ entries_of r
+kept_count (Ok l) true {f} e = let same : record { value = l.count; next = l.next } ≡ f = cc in ap (λ (x : LineValue Cursor ℕ). x.value) (sym same)
 kept_count (Ok l) false e = cc
 kept_count (Err x) ok e = cc
 
 -- so many of the words that were read, in the place of others
-pub load_within : {load : List ℕ} {reader : Reader (List ℕ)} (n : ℕ) {p : Progress} {f : LineValue ℕ} (loads : List ℕ) (loaded : ℕ)
+pub load_within : {load : List ℕ} {reader : Reader (List ℕ)} (n : ℕ) {p : Progress} {f : LineValue Cursor ℕ} (loads : List ℕ) (loaded : ℕ)
     → ReadEntries reader (padded n) p (Ok f) load
     → ReadEntries reader (λ l. spliced loaded l loads) p (Ok f) (spliced loaded (take f.value load) loads)
 load_within {load = load} n {f = f} loads loaded i =

@@ -150,14 +150,14 @@ module _ (most items trucks : ℕ) where
 
 -- ---- one stack, as the code reads it
 -- a refusal has no number of entries
-pub stack_refused : {m : Limits} {counts : Counts} {k : ℕ} {before : LineValue ℕ} {e : LineRefused} {part₀ part : List ℕ} (r : LineResult ℕ)
+pub stack_refused : {m : Limits} {counts : Counts} {k : ℕ} {before : LineValue Cursor ℕ} {e : LineRefused} {part₀ part : List ℕ} (r : LineResult ℕ)
     → IsErrAnd r (λ x. x ≡ e)
     → ReadInto (one_stack m.loads counts.items counts.trucks (row_numbers k part₀) before.value) (with_stack m k before.value part₀) (Ok before.next) (Err e) part
     → StackPromise m counts k before r part₀ part
 stack_refused (Ok f) h i = absurd h
 stack_refused (Err x) h i = record { into = handed_on h i; loaded = tt; within = tt }
 
-module _ (m : Limits) (counts : Counts) (part₀ part₁ ys : List ℕ) (k : ℕ) (before : LineValue ℕ) (p : Cursor) (r : LineValue ℕ) where
+module _ (m : Limits) (counts : Counts) (part₀ part₁ ys : List ℕ) (k : ℕ) (before : LineValue Cursor ℕ) (p : Cursor) (r : LineValue Cursor ℕ) where
   -- the part of the loads
   abbrev lent : List ℕ
   lent = mid_of (8 * m.stacks) (length part₁ - 8 * m.stacks) part₁
@@ -190,7 +190,7 @@ module _ (m : Limits) (counts : Counts) (part₀ part₁ ys : List ℕ) (k : ℕ
       }
 
 -- ---- the state of the loop: of `count` stacks k are read. What was read, then what is left, is the whole answer
-pub record SoFar (m : Limits) (counts : Counts) (count : ℕ) (p : Progress) (part : List ℕ) (k : ℕ) (q : LineValue ℕ) : Type 0 where
+pub record SoFar (m : Limits) (counts : Counts) (count : ℕ) (p : Progress) (part : List ℕ) (k : ℕ) (q : LineValue Cursor ℕ) : Type 0 where
   pub stacks : List Stack
   pub many : length stacks ≡ k
   pub room : q.value ≤ m.loads
@@ -211,7 +211,7 @@ so_far_first m counts count here part cleared =
       says = rw (sub-zero count) (later_first m.loads counts.items counts.trucks count (Ok here));
     }
 
-module _ {m : Limits} {counts : Counts} {count : ℕ} {p : Progress} {part : List ℕ} {k : ℕ} {q : LineValue ℕ}
+module _ {m : Limits} {counts : Counts} {count : ℕ} {p : Progress} {part : List ℕ} {k : ℕ} {q : LineValue Cursor ℕ}
     (t : SoFar m counts count p part k q) where
   -- a stack that is read now is read behind those before
   one_says : {w : Stack → List ℕ} {r : Progress} {out : List ℕ}
@@ -223,7 +223,7 @@ module _ {m : Limits} {counts : Counts} {count : ℕ} {p : Progress} {part : Lis
       ap₂ (one_stack m.loads counts.items counts.trucks) (ap (λ (n : ℕ). row_numbers n part) (sym t.many) ∙ holds_earlier t.held) t.held.counted)
 
   -- one stack more
-  pub so_far_next : {r : LineValue ℕ} {part' : List ℕ} → k < count → count ≤ m.stacks → StackPromise m counts k q (Ok r) part part'
+  pub so_far_next : {r : LineValue Cursor ℕ} {part' : List ℕ} → k < count → count ≤ m.stacks → StackPromise m counts k q (Ok r) part part'
       → SoFar m counts count p part' (k + 1) r
   so_far_next {r} h fits one =
       let s = one.into.value in

@@ -8,6 +8,7 @@ use Rattle.meaning.specs.Files.{stack_line, load_line, stack_lines, number_line,
 use Rattle.meaning.specs.Model.{Stack}
 use Rattle.meaning.specs.Table.{stack_words, load_entries}
 use Rattle.ranges.specs.Ranges.{row_numbers}
+use Rattle.lines.specs.declared.cursor.Cursor.{Cursor}
 use Rattle.lines.specs.declared.LineValue.{LineValue}
 use Rattle.lines.specs.Progress.{at_start, LineResult, progress_of, ReadInto}
 use Rattle.plan.specs.declared.counts.Counts.{Counts}
@@ -29,7 +30,7 @@ abbrev pub with_stack : Limits → ℕ → ℕ → List ℕ → Stack → List �
 with_stack m k loaded part s = spliced (8 * m.stacks + loaded) s.load (spliced (8 * k) (s.fields ++ (loaded ∷ length s.load ∷ [])) part)
 
 -- what reading the k-th stack promises, where the loads before it hold so many entries: how many they hold then, for which there is room
-pub record StackPromise (m : Limits) (counts : Counts) (k : ℕ) (before : LineValue ℕ) (r : LineResult ℕ) (part₀ part : List ℕ) : Type 0 where
+pub record StackPromise (m : Limits) (counts : Counts) (k : ℕ) (before : LineValue Cursor ℕ) (r : LineResult ℕ) (part₀ part : List ℕ) : Type 0 where
   pub into : ReadInto (one_stack m.loads counts.items counts.trucks (row_numbers k part₀) before.value)
       (with_stack m k before.value part₀) (Ok before.next) (progress_of r) part
   pub loaded : IfOk r (λ f. f.value ≡ before.value + length into.value.load)

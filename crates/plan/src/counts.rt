@@ -3,7 +3,7 @@
 ghost use Rattle.plan.specs.Below.{BelowLargest, below_prop};
 
 // How many items and trucks the instance has. Their numbers are told from the largest word, which stands for all numbers that do not fit.
-#[derive(Clone, Copy, PartialEq, Eq)]
+#[derive(Clone, Copy)]
 pub struct Counts {
     pub items: u32,
     pub trucks: u32,

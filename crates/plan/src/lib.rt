@@ -60,12 +60,13 @@ fn read_load<'a>(
 }
 
 // The next stack, the k-th: its line, its load, and where the load stands. What is found is how many entries the loads hold, before
-// and then with this one.
+// and then with this one. (The part's length stays a clause here and below. It is a fact of words that change: a struct of them would be
+// made anew at each call, and a ghost field beside a `&mut` would be asked for again at each write.)
 fn read_stack<'a>(
     layout: Layout,
     counts: Counts,
     k: usize,
-    loaded: LineValue<'a, usize>,
+    loaded: LineValue<Cursor<'a>, usize>,
     part: &mut [u32],
 ) -> LineResult<'a, usize>
     requires { (k < layout.limits.stacks) × (loaded.value ≤ layout.limits.loads)

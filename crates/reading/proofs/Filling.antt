@@ -33,15 +33,17 @@ use Rattle.ranges.specs.Clashes.{items_in, clash_place}
 use Rattle.ranges.proofs.Clashes.{clashes_of}
 use Rattle.std.specs.Borrow.{Bor}
 use Rattle.std.specs.Prelude.{Option as Perhaps, Ok, Err}
+use Rattle.lines.specs.declared.LineRefused.{LineRefused}
 use Rattle.lines.specs.declared.LineRefused.TheVariants.{WrongForm, OutOfRange}
 use Rattle.lines.specs.declared.cursor.Cursor.{Cursor}
 use Rattle.lines.specs.declared.LineValue.{LineValue}
-use Rattle.lines.specs.Progress.{Progress, at_start, reached, LineResult, progress_of, ReadInto}
+use Rattle.lines.specs.Progress.{Progress, lines_before, at_start, reached, LineResult, progress_of, ReadInto}
 use Rattle.lines.proofs.Follow.{onward_twice}
 use Rattle.instance.specs.Words.{instance_file, instance_words}
 use Rattle.plan.specs.declared.counts.Counts.{Counts}
 use Rattle.plan.specs.Words.{plan_words, plan_file, PlanPromise}
-use Rattle.reading.specs.Answered.{FilesRead, refused_with, FillPromise, HoldsInstance}
+use Rattle.reading.specs.declared.Refusal.TheVariants.{InstanceForm, InstanceRange, PlanForm, PlanRange}
+use Rattle.reading.specs.Answered.{FilesRead, number_of, refusal_by, refused_with, FillPromise, HoldsInstance}
 
 -- ---- the words of a model are those of its instance and those of its plan
 module _ (m : Limits) (i : Instance) where
@@ -139,13 +141,11 @@ module _ (m : Limits) (file : Bor (List ℕ)) (p : Progress) (part : List ℕ) (
   unfolding whole_file
   instance_said q e = sym h.says ∙ ap (reached h.value) e
 
-  pub instance_form : (plan t : List ℕ) (r : FilesRead) (n : ℕ) → p ≡ Err (WrongForm n) → r ≡ refused_with 4 (n + 1) 0 → FillPromise m (both plan) r t
+  pub instance_refused : (plan t : List ℕ) (r : FilesRead) (l : LineRefused) → p ≡ Err l
+      → r ≡ refused_with (number_of (refusal_by l InstanceForm InstanceRange)) (lines_before l + 1) 0 → FillPromise m (both plan) r t
   unfolding after_instance
-  instance_form plan t r n e k = line_refused m (both plan) t r 4 n (ap (after_instance m plan) (instance_said (Err (WrongForm n)) e)) k
-
-  pub instance_range : (plan t : List ℕ) (r : FilesRead) (n : ℕ) → p ≡ Err (OutOfRange n) → r ≡ refused_with 5 (n + 1) 0 → FillPromise m (both plan) r t
-  unfolding after_instance
-  instance_range plan t r n e k = line_refused m (both plan) t r 5 n (ap (after_instance m plan) (instance_said (Err (OutOfRange n)) e)) k
+  instance_refused plan t r (WrongForm n) e k = line_refused m (both plan) t r 4 n (ap (after_instance m plan) (instance_said (Err (WrongForm n)) e)) k
+  instance_refused plan t r (OutOfRange n) e k = line_refused m (both plan) t r 5 n (ap (after_instance m plan) (instance_said (Err (OutOfRange n)) e)) k
 
   -- where it is read to its end: the words are ready for the plan, and what the plan gives is what both files give
   module _ (c : Cursor) (e : p ≡ Ok c) where
@@ -199,15 +199,13 @@ module _ (m : Limits) (i : Instance) (file : Bor (List ℕ)) (counts : Counts) (
   plan_said : (q : LineResult ℕ) → r ≡ q → whole_file (plan_lines m i) file.now ≡ reached h.into.value (progress_of q)
   plan_said q e = sym (h.into.says ∙ rw (a, b) (plan_file_lem m i file.now)) ∙ ap (λ (x : LineResult ℕ). reached h.into.value (progress_of x)) e
 
-  pub plan_form : (t : List ℕ) (answer : FilesRead) (n : ℕ) → r ≡ Err (WrongForm n) → answer ≡ refused_with 7 (n + 1) 0 → FillPromise m on_plan answer t
+  pub plan_refused : (t : List ℕ) (answer : FilesRead) (l : LineRefused) → r ≡ Err l
+      → answer ≡ refused_with (number_of (refusal_by l PlanForm PlanRange)) (lines_before l + 1) 0 → FillPromise m on_plan answer t
   unfolding after_plan
-  plan_form t answer n e k = line_refused m on_plan t answer 7 n (ap (after_plan i) (plan_said (Err (WrongForm n)) e)) k
+  plan_refused t answer (WrongForm n) e k = line_refused m on_plan t answer 7 n (ap (after_plan i) (plan_said (Err (WrongForm n)) e)) k
+  plan_refused t answer (OutOfRange n) e k = line_refused m on_plan t answer 8 n (ap (after_plan i) (plan_said (Err (OutOfRange n)) e)) k
 
-  pub plan_range : (t : List ℕ) (answer : FilesRead) (n : ℕ) → r ≡ Err (OutOfRange n) → answer ≡ refused_with 8 (n + 1) 0 → FillPromise m on_plan answer t
-  unfolding after_plan
-  plan_range t answer n e k = line_refused m on_plan t answer 8 n (ap (after_plan i) (plan_said (Err (OutOfRange n)) e)) k
-
-  pub plan_readable : (t : List ℕ) (from : ℕ) (f : LineValue ℕ) → InstanceMeets m i → t ≡ words m i [] → from ≡ stacks_at m → r ≡ Ok f
+  pub plan_readable : (t : List ℕ) (from : ℕ) (f : LineValue Cursor ℕ) → InstanceMeets m i → t ≡ words m i [] → from ≡ stacks_at m → r ≡ Ok f
       → FillPromise m on_plan (Ok tt) (set (put_mid from (length t - from) t part) 5 f.value)
   unfolding after_plan
   plan_readable t from found_stacks range w f e =

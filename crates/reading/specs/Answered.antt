@@ -9,6 +9,8 @@ use Rattle.meaning.specs.Places.{place}
 use Rattle.meaning.specs.Verdict.{refusal}
 use Rattle.meaning.specs.Check.{Reading, refused, readable, read_files, named_after, table_after}
 use Rattle.table.specs.Filled.{Filled}
+use Rattle.lines.specs.declared.LineRefused.{LineRefused}
+use Rattle.lines.specs.declared.LineRefused.TheVariants.{WrongForm, OutOfRange}
 use Rattle.reading.specs.declared.Refusal.{Refusal}
 use Rattle.reading.specs.declared.Refusal.TheVariants.{ShortTable, InstanceOverlong, PlanOverlong, InstanceForm, InstanceRange, CodeClash, PlanForm, PlanRange}
 
@@ -23,6 +25,11 @@ number_of InstanceRange = 5
 number_of CodeClash = 6
 number_of PlanForm = 7
 number_of PlanRange = 8
+
+-- the one of two refusals by which a line is refused: for its form, or for its ranges
+abbrev pub refusal_by : LineRefused → Refusal → Refusal → Refusal
+refusal_by (WrongForm n) form range = form
+refusal_by (OutOfRange n) form range = range
 
 -- refused with the answer, or readable, and then the rules decide
 abbrev pub FilesRead : Type 0

@@ -8,7 +8,8 @@ ghost use Rattle.meaning.specs.Reader.{whole_file};
 ghost use Rattle.meaning.specs.Files.{instance_lines, plan_lines};
 ghost use Rattle.meaning.specs.Table.{instance_in};
 ghost use Rattle.meaning.specs.Check.{code_clashes, after_plan, after_clash, after_instance, read_files};
-ghost use Rattle.reading.specs.Answered.{number_of, refused_with, FillPromise, HoldsInstance, NamedPromise, ReadPromise};
+ghost use Rattle.lines.specs.Progress.{lines_before};
+ghost use Rattle.reading.specs.Answered.{number_of, refusal_by, refused_with, FillPromise, HoldsInstance, NamedPromise, ReadPromise};
 
 use instance::read_instance;
 use lines::LineRefused;
@@ -20,7 +21,7 @@ use table::{NamedWords, Table, clear, small_limits};
 
 // ---- the refusals
 // Why files are not read, by document 01's numbers.
-#[derive(Clone, Copy, PartialEq, Eq)]
+#[derive(Clone, Copy)]
 enum Refusal {
     ShortTable = 1,
     InstanceOverlong = 2,
@@ -32,7 +33,8 @@ enum Refusal {
     PlanRange = 8,
 }
 
-// A refusal with two places. It has neither cost nor trucks.
+// A refusal with two places. It has neither cost nor trucks. (`judging` makes its own, of a rule's verdict and a place; beyond the zeros
+// the two share nothing.)
 fn refused(refusal: Refusal, first: u32, second: u32) -> Result<(), Answer>
     ensures { result ≡ refused_with (number_of refusal) first second }
 {
@@ -54,7 +56,20 @@ fn refused_line(refusal: Refusal, lines: usize) -> Result<(), Answer>
     refused(refusal, (lines + 1) as u32, 0)
 }
 
+// A refusal of a file's line: the one for its form, or the one for its ranges.
+fn refused_by(line: LineRefused, form: Refusal, range: Refusal) -> Result<(), Answer>
+    requires { lines_before line ≤ 16777216 }
+    ensures { result ≡ refused_with (number_of (refusal_by line form range)) (lines_before line + 1) 0 }
+{
+    match line {
+        LineRefused::WrongForm(lines) => refused_line(form, lines),
+        LineRefused::OutOfRange(lines) => refused_line(range, lines),
+    }
+}
+
 // ---- filling the named words
+// That the words are as many as the named ones stays a clause of each function. It is a fact of words that change: a struct of them would
+// be made anew at each call, and a ghost field beside a `&mut` would be asked for again at each write.
 
 // The plan, once the instance is read and has no code clash.
 fn fill_plan(layout: Layout, plan: &[u8], words: &mut [u32]) -> Result<(), Answer>
@@ -75,8 +90,7 @@ fn fill_plan(layout: Layout, plan: &[u8], words: &mut [u32]) -> Result<(), Answe
             words[STACK_COUNT] = stacks.value;
             Ok(())
         }
-        Err(LineRefused::WrongForm(lines)) => refused_line(Refusal::PlanForm, lines),
-        Err(LineRefused::OutOfRange(lines)) => refused_line(Refusal::PlanRange, lines),
+        Err(line) => refused_by(line, Refusal::PlanForm, Refusal::PlanRange),
     }
 }
 
@@ -109,8 +123,7 @@ fn fill(layout: Layout, instance: &[u8], plan: &[u8], words: &mut [u32]) -> Resu
     let end = layout.stacks_at();
     match read_instance(layout, instance, &mut words[0..end]) {
         Ok(_) => fill_after_instance(layout, plan, words),
-        Err(LineRefused::WrongForm(lines)) => refused_line(Refusal::InstanceForm, lines),
-        Err(LineRefused::OutOfRange(lines)) => refused_line(Refusal::InstanceRange, lines),
+        Err(line) => refused_by(line, Refusal::InstanceForm, Refusal::InstanceRange),
     }
 }
 

@@ -65,7 +65,7 @@ module _ {p : Progress} where
         → ReadInto truck_lines truck_words p (Err e) out
     products_refused r = behind_row (stopped r.into (after_products readRow.value) no_truck)
 
-    module _ {products : LineValue ℕ} {w₂ : List ℕ} (readProducts : ReadEntries (line products_line) (counted_words 32) (Ok row) (Ok products) w₂) where
+    module _ {products : LineValue Cursor ℕ} {w₂ : List ℕ} (readProducts : ReadEntries (line products_line) (counted_words 32) (Ok row) (Ok products) w₂) where
       behind_products : {r : Progress} {out : List ℕ} → ReadInto (after_products readRow.value readProducts.into.value) truck_words (Ok products.next) r out
           → ReadInto truck_lines truck_words p r out
       behind_products rest = behind_row (behind readProducts.into (after_products readRow.value) rest)
@@ -74,7 +74,7 @@ module _ {p : Progress} where
           → ReadInto truck_lines truck_words p (Err e) out
       suppliers_refused r = behind_products (stopped r.into (after_suppliers readRow.value readProducts.into.value) no_truck)
 
-      module _ {suppliers : LineValue ℕ} {w₃ : List ℕ}
+      module _ {suppliers : LineValue Cursor ℕ} {w₃ : List ℕ}
           (readSuppliers : ReadEntries (line suppliers_line) (counted_words 8) (Ok products.next) (Ok suppliers) w₃) where
         behind_suppliers : {r : Progress} {out : List ℕ}
             → ReadInto (after_suppliers readRow.value readProducts.into.value readSuppliers.into.value) truck_words (Ok suppliers.next) r out
@@ -105,7 +105,7 @@ module _ {p : Progress} where
           plant_docks_refused r = behind_docks (stopped r.into (λ l. give (truck l)) no_truck)
 
           -- the words stand one behind the other
-          pub truck_read : {plant_docks : LineValue ℕ} {w₅ out : List ℕ}
+          pub truck_read : {plant_docks : LineValue Cursor ℕ} {w₅ out : List ℕ}
               → ReadEntries (line plant_docks_line) (counted_words 8) (Ok docks) (Ok plant_docks) w₅ → Front 160 143 ((((([] ++ w₁) ++ w₂) ++ w₃) ++ w₄) ++ w₅) out
               → ReadInto truck_lines truck_words p (Ok plant_docks.next) out
           truck_read read front = behind_docks (behind_last read.into truck (λ g.

@@ -18,7 +18,8 @@ use table::layout::{
 // ---- rows
 
 // So many rows of one width, one after another, each read into the part of the words that it is lent. The words behind them are zero. The
-// clause takes any reader that finds the words of a row as `read_row` does.
+// clause takes any reader that finds the words of a row as `read_row` does. (By place and not by `chunks_exact_mut`: of the words of its
+// rows nothing is known any more once they are handed back.)
 pub fn read_rows<'a, F: Fn(Cursor<'a>, &mut [u32]) -> Progress<'a>>(
     here: Cursor<'a>,
     width: usize,
@@ -43,7 +44,7 @@ pub fn read_rows<'a, F: Fn(Cursor<'a>, &mut [u32]) -> Progress<'a>>(
 // ---- trucks
 
 // One `docks=` line for each supplier. The eight counts stand first, then the docks of each supplier in a row of their own. (Not by
-// `read_rows`: each row's count is stored too, which stands among other words.)
+// `read_rows`: each row's count is stored too, which stands among other words. By place for the same reason as there.)
 fn read_docks<'a>(here: Cursor<'a>, suppliers: usize, part: &mut [u32]) -> Progress<'a>
     requires { (suppliers ≤ 8) × (length part.old ≡ 72) }
     ensures { ReadInto (times suppliers (line docks_line)) dock_words (Ok here.entry) result part.new }
