@@ -242,8 +242,8 @@ impl<'a> StackLoad<'a> {
             lowest: MOST_PLANT_DOCKS,
             highest: 0,
         };
-        for j in (0..self.items.len()).rev() {
-            let order = order_in(docks, self.table.item_field(self.items[j], fields::IG));
+        for n in self.items.iter().rev() {
+            let order = order_in(docks, self.table.item_field(*n, fields::IG));
             range = including(range, order as u32);
         }
         range
