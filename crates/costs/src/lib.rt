@@ -55,7 +55,7 @@ fn inventory_sum(table: Table<'_>) -> u64
     sum
 }
 
-// The price of a used truck in thousandths; an extra one costs more.
+// The price of a used truck in thousandths; an extra one costs more. Copy 0 is the planned truck by document 01; no other function asks which.
 pub fn truck_cost(table: Table<'_>, truck: u32, copy: u32) -> u64
     requires { TruckNumber (instance_of table) truck }
     ensures { (result ≡ transport_cost (instance_of table.entry) (used_truck truck copy)) × (result ≤ 2000000000) }

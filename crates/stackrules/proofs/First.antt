@@ -19,7 +19,6 @@ use Rattle.meaning.specs.Rules.{item_places, stack_places}
 use Rattle.meaning.proofs.Tests.{true≢false}
 use Rattle.meaning.proofs.Lists.{drop_back}
 use Rattle.meaning.proofs.Permute.{perm_same, flat_map_equal}
-use Rattle.table.specs.Filled.{ItemNumber, LoadOfItems}
 use Rattle.search.specs.Lowest.{lowest_in, lower_found, place_cmp, lower_by}
 use Rattle.search.proofs.Lowest.{place_lower, lowest_append, lowest_members, empty_found, none_listed}
 use Rattle.rules.specs.declared.Rule.{Rule}
@@ -189,10 +188,6 @@ module _ {A : Type 0} {g : A → Rule → List Place} {l : List A} {j : ℕ} whe
   pub from_end : {r : Option Breach} → FirstFrom g l j r → j ≤ 0 → FirstOf (λ rule. flat_map (λ (a : A). g a rule) l) r
   from_end {r} h end = let all : j ≡ 0 = omega arith in rw all at h.is
 
--- the next element is an item, or a stack
-module _ {j : ℕ} {r : Option Breach} where
-  pub entry_known : {i : Instance} {load : List ℕ} {g : ℕ → Rule → List Place} → LoadOfItems i load → FirstFrom g load j r → 0 < j → ItemNumber i (get_or load (j - 1) 0)
-  entry_known items h some = items.entries (j - 1) (omega (arith, h.upto))
-
-  pub manifest_known : (p : List Stack) {g : Stack → Rule → List Place} → FirstFrom g (in_manifest p) j r → 0 < j → j - 1 < length p
-  manifest_known p h some = omega (arith, h.upto, manifest_length p)
+-- the next element is a stack
+pub manifest_known : {j : ℕ} {r : Option Breach} (p : List Stack) {g : Stack → Rule → List Place} → FirstFrom g (in_manifest p) j r → 0 < j → j - 1 < length p
+manifest_known p h some = omega (arith, h.upto, manifest_length p)

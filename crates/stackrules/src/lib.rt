@@ -133,7 +133,8 @@ impl<'a> LoadedItem<'a> {
             & self.matches_bottom(IK)
     }
 
-    // 18 turned, S4: a forced orientation is the stack's.
+    // 18 turned, S4: a forced orientation is the stack's. Both are numbers of the file (document 01), of which 0 forces none; they are
+    // compared here alone.
     fn orientation_kept(self) -> bool
         ensures { result ≡ orientation_kept (instance_of self.entry.table) (stack_of self.entry) (item_of self.entry) }
     {
@@ -156,7 +157,8 @@ impl<'a> LoadedItem<'a> {
         }
     }
 
-    // Whether an item of a stack keeps every rule on items.
+    // Whether an item of a stack keeps every rule on items. All are asked without a branch, beside `keeps`, which asks one: most items keep
+    // them all, and are told so faster (decision 89 in docs/DECISIONS.md).
     fn keeps_rules(self) -> bool
         ensures { result ≡ every_item_test (instance_of self.entry.table) (stack_of self.entry) (item_of self.entry) }
     {
@@ -178,7 +180,8 @@ fn density_kept(weight: u32, limit: u32, length: u32, width: u32) -> bool
     (weight as u64) * 1000000 <= (limit as u64) * (length as u64) * (width as u64)
 }
 
-// The lowest dimension that does not fit: 1 length, 2 width, 3 height. The two tests say whether length and width fit.
+// The lowest dimension that does not fit: 1 length, 2 width, 3 height. The two tests say whether length and width fit. Document 01 numbers
+// the dimensions as the answer's second place, and they are told here alone: an enum would be made and turned into its number at once.
 fn exceeded_side(length: bool, width: bool) -> u32
     ensures { result ≡ cond (not length) 1 (cond (not width) 2 3) }
 {
@@ -199,7 +202,8 @@ impl<'a> ListedStack<'a> {
         self.manifest.rows[self.at]
     }
 
-    // 16 docks, S2 and S3: one plant dock; where the truck's flag is set also two, if they are consecutive.
+    // 16 docks, S2 and S3: one plant dock; where the truck's flag is set also two, if they are consecutive. The flag is the file's 1
+    // (document 01), read here alone.
     fn docks_place(self) -> Option<Place>
         ensures { result ≡ lowest_in (own_places OwnRule.Docks (instance_of self.entry.manifest.table) (listed_stack self.entry)) }
     {
@@ -280,7 +284,8 @@ impl<'a> ListedStack<'a> {
         }
     }
 
-    // Whether the stack keeps every rule on the stack itself.
+    // Whether the stack keeps every rule on the stack itself. All are asked without a branch, beside `own_place`, which asks one, since most
+    // stacks keep them all (decision 89 in docs/DECISIONS.md).
     fn own_rules_kept(self) -> bool
         ensures { (result ≡ true) ↔ OwnRulesKept (instance_of self.entry.manifest.table) (listed_stack self.entry) }
     {
@@ -358,15 +363,14 @@ impl<'a> ListedStack<'a> {
         let s = self.row().index as usize;
         let items = self.manifest.table.load(s);
         let mut first = None;
-        for j in (0..items.len()).rev() {
-            let n = items[j];
+        for n in items.iter().rev() {
             let item = LoadedItem {
                 table: self.manifest.table,
                 place: s,
-                number: n,
+                number: *n,
             };
             if !(own & item.keeps_rules()) {
-                first = lower_of(self.breach_with_item(n), first);
+                first = lower_of(self.breach_with_item(*n), first);
             }
         }
         first

@@ -1,3 +1,4 @@
+pub mod Back
 pub mod Loads
 pub mod Stacks
 pub mod Bounds

@@ -61,7 +61,9 @@ pub struct Rank {
     pub highest: u32,
 }
 
-// ---- fields of a stack of the table
+// ---- fields of a stack of the table. That a place or a truck's number is one of the table's stays a clause here, at the table's accessors
+// and at the loading orders, as an index is asked to be one of its slice: a struct of the table and the number would be made for one
+// question. Where an item or a stack is asked several, such a struct keeps it (`LoadedItem` and `ListedStack` in stackrules).
 
 // A field of a stack's bottom item.
 pub fn bottom_field(table: Table<'_>, s: usize, field: usize) -> u32
@@ -96,8 +98,9 @@ pub fn read_position(table: Table<'_>, s: usize) -> Position
 
 // ---- the ground
 
-// How far a stack reaches along the trailer and across it, by length and width of its bottom item. No other function knows what an
-// orientation means, so it stays the file's number (document 01), which the ranges keep 1 or 2: an enum would be made and matched here alone.
+// How far a stack reaches along the trailer and across it, by length and width of its bottom item. An orientation stays the file's number
+// (document 01), which the ranges keep 1 or 2: but for the rule that compares it with a forced one (0 for none), it is asked here alone, where
+// an enum would be made and matched at once.
 fn extent_of(length: u32, width: u32, orientation: u32) -> Extent
     requires { (1 ≤ orientation) × (orientation ≤ 2) }
     ensures { result ≡ extent_of length width orientation }
@@ -206,7 +209,7 @@ impl<'a> StackLoad<'a> {
         footprint_from(position, length, width)
     }
 
-    // The sum of a field over the items: all of them from 0, those above the bottom item from 1.
+    // The sum of a field over the items, of which `from` are left out at the bottom: with 0 all are summed, with 1 those above the bottom item.
     pub fn sum(self, from: usize, field: usize) -> u32
         requires { (from ≤ 1) × (field < 16) }
         ensures { (result ≡ sum (λ n. get_or (item (instance_of self.entry.table) n) field 0) (drop from self.entry.items.now))
@@ -242,8 +245,8 @@ impl<'a> StackLoad<'a> {
             lowest: MOST_PLANT_DOCKS,
             highest: 0,
         };
-        for j in (0..self.items.len()).rev() {
-            let order = order_in(docks, self.table.item_field(self.items[j], fields::IG));
+        for n in self.items.iter().rev() {
+            let order = order_in(docks, self.table.item_field(*n, fields::IG));
             range = including(range, order as u32);
         }
         range
