@@ -28,7 +28,7 @@ use table::Table;
 
 // ---- what is asked of the used trucks
 
-// The kinds of rules that are asked of the used trucks.
+// The kinds of rules that are asked of the used trucks. They are flags and not one kind, since several kinds are asked in one walk.
 #[derive(Clone, Copy)]
 struct Asked {
     single_pair: bool, // 17
@@ -59,7 +59,7 @@ fn with_rule(asked: Asked, rule: Rule) -> Asked
 }
 
 // The kinds of the rules below a rank. A rule that comes later need not be asked where one of that rank is broken. Most plans break none on
-// single stacks, and then everything is asked.
+// single stacks, and then everything is asked. Ranks are counted here, and the list of the rules is not walked: a rank is what is told.
 fn kinds_below(rank: usize) -> Asked
     requires { rank ≤ rule_count }
     ensures { AskedBelow rank result }
@@ -91,7 +91,8 @@ struct UsedTrucks {
     cost: u64,
 }
 
-// What the used trucks keep and break, of the kinds that were asked.
+// What the used trucks keep and break, of the kinds that were asked. What was not asked is held for kept: so the findings of two parts join
+// field by field, by `&` and the lower place, whatever was asked. What was asked is in `Asked` alone.
 #[derive(Clone, Copy)]
 struct Findings {
     single_pair: bool, // 17 is kept
@@ -298,7 +299,8 @@ fn lowest_pair(
     first_pair(rule, manifest, order)
 }
 
-// The answer on a broken rule.
+// The answer on a broken rule. (`reading` makes its refusals by itself, as an `Err` by its enum with two places; here it is an answer by a rule's
+// verdict with three.)
 fn refuse(verdict: u32, place: Place) -> Answer
     ensures { result ≡ refusal verdict place }
 {
@@ -382,7 +384,9 @@ fn survey_plan(manifest: Manifest<'_>, keys: &mut [u64], along: &mut [u32]) -> S
     }
 }
 
-// The verdict by the loading rules, each over the whole plan before the next. The keys and the order are scratch.
+// The verdict by the loading rules, each over the whole plan before the next. The keys and the order are scratch. They are two lent slices in
+// each function of this file that takes them, and no struct: the caller lends them, since there is no heap; all that is known of them is their
+// length beside the plan's, and no struct can keep that, since a ghost field beside a `&mut` gets no proof.
 fn judge_loading(manifest: Manifest<'_>, keys: &mut [u64], order: &mut [u32]) -> Answer
     requires { (length (stacks_of manifest.table) ≤ length keys.old) × (length (stacks_of manifest.table) ≤ length order.old) }
     ensures { result ≡ first_broken loading_rules (instance_of manifest.entry.table) (stacks_of manifest.entry.table)
