@@ -159,9 +159,6 @@ module _ {f : Findings} {upto : ℕ} where
     broken_here {kept} more e q =
         record { kept = h.kept; broken = λ r same. let s : rank ≡ r = ap (λ o. unwrap_or o 0) same in rw (← s) (more, sym e ∙ q) }
 
-  pub all_whole : ((rule : Rule) → kept_by rule f ≡ true) → FirstRank f upto None
-  all_whole all = record { kept = λ k below. all (rule_at k); broken = λ r e. absurd (none_some e) }
-
 -- ---- the first broken rule on single stacks
 pub upto_rules : {places : Rule → List Place} (b : Option Breach) → FirstOf places b → rank_of b ≤ rule_count
 upto_rules None h = omega arith
@@ -227,6 +224,7 @@ module _ {i : Instance} {p : List Stack} {b : Option Breach} {asked : Asked} {f 
       in
       (⊎_elim (λ s. absurd (true≢false (sym s ∙ other))) (λ a. tells.each (rule_at rank) a (beforehand f rank inside (λ j less. r.kept j less))) (covers.each rank below), r.broken below)
 
+-- what the survey says, from what the stacks and the used trucks tell
 pub surveyed : {i : Instance} {p : List Stack} {b : Option Breach} {asked : Asked} {f : Findings} {o : Option ℕ} {used : UsedTrucks} → FirstOnStacks i p b
     → AskedBelow (rank_of b) asked → TellsAsked asked i p f → FirstRank f (rank_of b) o → CountsTrucks i p used.count used.cost
     → SurveyOf i p (record { rank = told_rank o b; first = b; found = f; used = used })
