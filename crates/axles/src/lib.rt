@@ -155,13 +155,18 @@ impl<'a> Load<'a> {
 
     // The terms of the stack at place k in both sums: nothing where it is not on. Its lever is worked out first, so that the sum does not
     // branch: which stacks are on has no pattern that a processor could foresee.
-    fn term(self, departure: u32, twice: u32, k: usize) -> Sums
-        requires { (k < self.on.end) × (twice ≤ 80000) }
+    fn term(self, departure: u32, axles: Axles, k: usize) -> Sums
+        requires { k < self.on.end }
         ensures { (result.weight ≡ cond (is_on self.entry.rows.now departure k) (weight_at self.entry.rows.now k) 0)
-            × (result.levers ≡ cond (is_on self.entry.rows.now departure k) (lever_at self.entry.rows.now twice k) (pos 0)) }
+            × (result.levers ≡ cond (is_on self.entry.rows.now departure k) (lever_at self.entry.rows.now axles.line.twice k) (pos 0)) }
     {
         let row = self.rows[k];
-        let levers = lever_by(row.weight, row.footprint.x, row.footprint.xe, twice);
+        let levers = lever_by(
+            row.weight,
+            row.footprint.x,
+            row.footprint.xe,
+            axles.line.twice,
+        );
         if self.is_on(departure, k) {
             return Sums {
                 weight: row.weight as u64,
@@ -175,15 +180,14 @@ impl<'a> Load<'a> {
     }
 
     // Both sums of the stacks that are on at a departure.
-    fn sums(self, departure: u32, twice: u32) -> Sums
-        requires { twice ≤ 80000 }
+    fn sums(self, departure: u32, axles: Axles) -> Sums
         ensures { (result.weight ≡ weight_of self.entry.rows.now (on_at self.entry.rows.now departure self.entry.on))
-            × (result.levers ≡ levers_of self.entry.rows.now twice (on_at self.entry.rows.now departure self.entry.on)) }
+            × (result.levers ≡ levers_of self.entry.rows.now axles.line.twice (on_at self.entry.rows.now departure self.entry.on)) }
     {
         let mut weight: u64 = 0;
         let mut levers: i64 = 0;
         for k in (self.on.start..self.on.end).rev() {
-            let term = self.term(departure, twice, k);
+            let term = self.term(departure, axles, k);
             weight = term.weight + weight;
             levers = term.levers + levers;
         }
@@ -195,7 +199,7 @@ impl<'a> Load<'a> {
         ensures { (result.middle ≡ exceeds middle_under self.entry.rows.now self.entry.on axles.line departure)
             × (result.rear ≡ exceeds rear_under self.entry.rows.now self.entry.on axles.line departure) }
     {
-        let sums = self.sums(departure, axles.line.twice);
+        let sums = self.sums(departure, axles);
         let h = axles.moment(sums.levers);
         let middle = axles.middle_holds(h);
         let rear = axles.rear_holds(h, sums.weight);

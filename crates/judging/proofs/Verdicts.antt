@@ -7,7 +7,7 @@ use Prim.Native.Nat.{ℕ, suc, ◌+◌, ◌≤◌, ◌<◌}
 use native.Mathlib.Decide.{dec_le}
 use native.Mathlib.Nat.{eq-or-lt_of_le}
 use native.Mathlib.Omega.{arith}
-use Rattle.std.specs.Prelude.{Option, Some, None}
+use Rattle.std.specs.Prelude.{Option, Some, None, is_none, unwrap_or}
 use Rattle.meaning.specs.declared.Place.{Place}
 use Rattle.meaning.specs.declared.Answer.{Answer}
 use Rattle.meaning.specs.Rules.{loading_rules}
@@ -33,7 +33,7 @@ use Rattle.judging.specs.declared.Asked.{Asked}
 use Rattle.judging.specs.declared.Findings.{Findings}
 use Rattle.judging.specs.declared.UsedTrucks.{UsedTrucks}
 use Rattle.judging.specs.declared.Survey.{Survey}
-use Rattle.judging.specs.Judging.{is_asked, AskedBelow, pair_kept, truck_found, all_kept, Beforehand, nothing, kept_by, Tells, TellsAsked, FirstRank, CountsTrucks, stack_found, SurveyOf, place_in}
+use Rattle.judging.specs.Judging.{is_asked, AskedBelow, pair_kept, truck_found, all_kept, Beforehand, nothing, kept_by, Tells, TellsAsked, FirstRank, CountsTrucks, told_rank, stack_found, BrokenAt, SurveyOf, place_in}
 
 -- ---- what a search found
 found_none : (f : Option Place) → nothing f ≡ true → None ≡ f
@@ -135,6 +135,9 @@ all_told f e =
     each s v o u w m r (OfTrucks Rear) = r
 
 -- ---- the loop over the ranks
+none_some : {rank : ℕ} → None ≡ Some rank → ⊥
+none_some e = true≢false (ap is_none e)
+
 -- the rules below `rank` are told to be kept
 pub record KeptTo (f : Findings) (upto rank : ℕ) : Type 0 where
   pub within : rank ≤ upto
@@ -149,8 +152,12 @@ module _ {f : Findings} {upto : ℕ} where
         go k below (yes less) = h.kept k less
         go k below (no past) = let same : k ≡ rank = omega arith in rw same (sym e ∙ q)
 
-    pub kept_whole : upto ≤ rank → FirstRank f upto upto
-    kept_whole past = record { within = omega arith; kept = λ k below. h.kept k (omega arith); broken = λ more. absurd (omega arith) }
+    pub kept_whole : upto ≤ rank → FirstRank f upto None
+    kept_whole past = record { kept = λ k below. h.kept k (omega arith); broken = λ r e. absurd (none_some e) }
+
+    pub broken_here : {kept : Bool} → rank < upto → kept ≡ kept_by (rule_at rank) f → kept ≡ false → FirstRank f upto (Some rank)
+    broken_here {kept} more e q =
+        record { kept = h.kept; broken = λ r same. let s : rank ≡ r = ap (λ o. unwrap_or o 0) same in rw (← s) (more, sym e ∙ q) }
 
 -- ---- the first broken rule on single stacks
 pub upto_rules : {places : Rule → List Place} (b : Option Breach) → FirstOf places b → rank_of b ≤ rule_count
@@ -162,9 +169,31 @@ broken_first : {places : Rule → List Place} (b : Option Breach) → FirstOf pl
 broken_first None h inside = absurd (omega (arith, inside))
 broken_first (Some b) h inside = let own = h.broken b refl in (own.1, own.2)
 
+-- ---- the rank that is told
+-- as a number: `upto` where there is none
+record RankTold (f : Findings) (upto rank : ℕ) : Type 0 where
+  within : rank ≤ upto
+  kept : (k : ℕ) → k < rank → kept_by (rule_at k) f ≡ true
+  broken : rank < upto → kept_by (rule_at rank) f ≡ false
+
+told_by : {f : Findings} {upto : ℕ} (o : Option ℕ) → FirstRank f upto o → RankTold f upto (unwrap_or o upto)
+told_by None h = record { within = omega arith; kept = h.kept; broken = λ more. absurd (omega arith) }
+told_by (Some rank) h = let own = h.broken rank refl in record { within = omega (arith, own.0); kept = h.kept; broken = λ more. own.1 }
+
+same_rank : (o : Option ℕ) (b : Option Breach) → unwrap_or (told_rank o b) rule_count ≡ unwrap_or o (rank_of b)
+same_rank (Some rank) b = refl
+same_rank None None = refl
+same_rank None (Some b) = refl
+
+told_inside : {places : Rule → List Place} {f : Findings} (o : Option ℕ) (b : Option Breach) → FirstOf places b → FirstRank f (rank_of b) o → {rank : ℕ}
+    → told_rank o b ≡ Some rank → unwrap_or o (rank_of b) < rule_count
+told_inside (Some rank) b first r e = omega (arith, (r.broken rank refl).0, upto_rules b first)
+told_inside None None first r e = absurd (none_some e)
+told_inside None (Some b) first r e = (first.broken b refl).0
+
 -- ---- the first broken rule
 module _ {i : Instance} {p : List Stack} {b : Option Breach} {asked : Asked} {f : Findings} {rank : ℕ} (first : FirstOnStacks i p b)
-    (covers : AskedBelow (rank_of b) asked) (tells : TellsAsked asked i p f) (r : FirstRank f (rank_of b) rank) where
+    (covers : AskedBelow (rank_of b) asked) (tells : TellsAsked asked i p f) (r : RankTold f (rank_of b) rank) where
   -- no rule below it lists a place
   kept_below : KeptBelow i p rank
   kept_below = record { each = λ k below. go k below (covers.each k (omega (arith, r.within))) }
@@ -195,36 +224,50 @@ module _ {i : Instance} {p : List Stack} {b : Option Breach} {asked : Asked} {f 
       in
       (⊎_elim (λ s. absurd (true≢false (sym s ∙ other))) (λ a. tells.each (rule_at rank) a (beforehand f rank inside (λ j less. r.kept j less))) (covers.each rank below), r.broken below)
 
-  pub surveyed : {used : UsedTrucks} → CountsTrucks i p used.count used.cost
-      → SurveyOf i p (record { rank = rank; first = b; found = f; used = used })
-  surveyed counts =
-      record { within = omega (arith, r.within, upto_rules b first); kept = kept_below; on_stacks = on_stacks_lem; tells = told; used = counts }
+-- what the survey says, from what the stacks and the used trucks tell
+pub surveyed : {i : Instance} {p : List Stack} {b : Option Breach} {asked : Asked} {f : Findings} {o : Option ℕ} {used : UsedTrucks} → FirstOnStacks i p b
+    → AskedBelow (rank_of b) asked → TellsAsked asked i p f → FirstRank f (rank_of b) o → CountsTrucks i p used.count used.cost
+    → SurveyOf i p (record { rank = told_rank o b; first = b; found = f; used = used })
+surveyed {i} {p} {b} {asked} {f} {o} {used} first covers tells r counts =
+    record { kept = rw (same_rank o b) (kept_below first covers tells t); broken = broken; used = counts }
+  where
+    t : RankTold f (rank_of b) (unwrap_or o (rank_of b))
+    t = told_by o r
+
+    broken : (rank : ℕ) → told_rank o b ≡ Some rank → BrokenAt i p (record { rank = told_rank o b; first = b; found = f; used = used }) rank
+    broken rank e =
+        let inside = told_inside o b first r e in
+        let same : unwrap_or o (rank_of b) ≡ rank = sym (same_rank o b) ∙ ap (λ o. unwrap_or o rule_count) e in
+        rw (← same) (record { inside = inside; on_stacks = on_stacks_lem first covers tells t inside; tells = told first covers tells t inside })
 
 -- the first broken rule, by its kind: the answer is its number with the place that was found
-module _ {i : Instance} {p : List Stack} {s : Survey} {rule : Rule} (h : SurveyOf i p s) (some : s.rank ≡ rule_count → ⊥) (e : rule ≡ rule_at s.rank) where
-  inside : s.rank < rule_count
-  inside = omega (arith, h.within, some)
+module _ {i : Instance} {p : List Stack} {s : Survey} {rank : ℕ} {rule : Rule} (h : SurveyOf i p s) (some : s.rank ≡ Some rank) (e : rule ≡ rule_at rank) where
+  broken : BrokenAt i p s rank
+  broken = h.broken rank some
+
+  below : KeptBelow i p rank
+  below = rw some at h.kept
 
   refused : (f : Option Place) (kept a : Answer) → a ≡ refusal (verdict_of rule) (place_in f)
-      → Some (place_in f) ≡ lowest_in (rule_places (rule_at s.rank) i p) → a ≡ first_broken loading_rules i p kept
+      → Some (place_in f) ≡ lowest_in (rule_places (rule_at rank) i p) → a ≡ first_broken loading_rules i p kept
   refused f kept a ea low =
-      ea ∙ ap (λ r. refusal (verdict_of r) (place_in f)) e ∙ ap (λ v. refusal v (place_in f)) (verdict_named s.rank inside)
-      ∙ broken_at_rank kept s.rank (place_in f) inside h.kept low
+      ea ∙ ap (λ r. refusal (verdict_of r) (place_in f)) e ∙ ap (λ v. refusal v (place_in f)) (verdict_named rank broken.inside)
+      ∙ broken_at_rank kept rank (place_in f) broken.inside below low
 
   pub stack_refused : {each : StackRule} {f : Option Place} {a : Answer} → rule ≡ OfStacks each → f ≡ stack_found s.first
       → a ≡ refusal (verdict_of rule) (place_in f) → (kept : Answer) → a ≡ first_broken loading_rules i p kept
-  stack_refused {f = f} k is ea kept = refused f kept _ ea (rw is (h.on_stacks inside (rw (← e, k) refl)))
+  stack_refused {f = f} k is ea kept = refused f kept _ ea (rw is (broken.on_stacks (rw (← e, k) refl)))
 
   pub pair_refused : {pair : PairRule} {f : Option Place} {a : Answer} → rule ≡ OfPairs pair → f ≡ lowest_in (rule_places (OfPairs pair) i p)
       → a ≡ refusal (verdict_of rule) (place_in f) → (kept : Answer) → a ≡ first_broken loading_rules i p kept
   pair_refused {pair} {f} k is ea kept =
-      let kind : rule_at s.rank ≡ OfPairs pair = sym e ∙ k in
-      let t = h.tells inside (rw kind refl) in
+      let kind : rule_at rank ≡ OfPairs pair = sym e ∙ k in
+      let t = broken.tells (rw kind refl) in
       refused f kept _ ea (rw kind (lowest_broken is (rw kind at t.0) (rw kind at t.1)))
 
   pub truck_refused : {each : TruckRule} {f : Option Place} {a : Answer} → rule ≡ OfTrucks each → f ≡ truck_found each s.found
       → a ≡ refusal (verdict_of rule) (place_in f) → (kept : Answer) → a ≡ first_broken loading_rules i p kept
   truck_refused {each} {f} k is ea kept =
-      let kind : rule_at s.rank ≡ OfTrucks each = sym e ∙ k in
-      let t = h.tells inside (rw kind refl) in
+      let kind : rule_at rank ≡ OfTrucks each = sym e ∙ k in
+      let t = broken.tells (rw kind refl) in
       refused f kept _ ea (rw (kind, is) (found_some (truck_found each s.found) (rw kind at t.1) ∙ (rw kind at t.0)))

@@ -1,5 +1,5 @@
 -- What is asked of the used trucks and what they answer, rule by rule.
-use Rattle.std.specs.Prelude.{◌≡◌, ◌↔◌, ◌⊎◌, Bool, true, false, ◌&&◌, Option, Some, None, List, [], ℕ, ◌≤◌, ◌<◌, length}
+use Rattle.std.specs.Prelude.{◌≡◌, ◌↔◌, ◌⊎◌, Bool, true, false, ◌&&◌, Option, Some, None, unwrap_or, List, [], ℕ, ◌≤◌, ◌<◌, length}
 use Rattle.meaning.specs.declared.Place.{Place}
 use Rattle.meaning.specs.Lists.{sum}
 use Rattle.meaning.specs.Places.{place}
@@ -155,11 +155,16 @@ all_kept f =
     pair_kept SecondPair f && pair_kept Overlap f && pair_kept Order f && nothing (truck_found Unbraced f) && nothing (truck_found Overload f)
     && nothing (truck_found Middle f) && nothing (truck_found Rear f)
 
--- the first rank below `upto` at which the used trucks tell of a broken rule, or `upto`
-pub record FirstRank (f : Findings) (upto rank : ℕ) : Type 0 where
-  pub within : rank ≤ upto
-  pub kept : (k : ℕ) → k < rank → kept_by (rule_at k) f ≡ true
-  pub broken : rank < upto → kept_by (rule_at rank) f ≡ false
+-- the first rank below `upto` at which the used trucks tell of a broken rule; none where they tell of none
+pub record FirstRank (f : Findings) (upto : ℕ) (first : Option ℕ) : Type 0 where
+  pub kept : (k : ℕ) → k < unwrap_or first upto → kept_by (rule_at k) f ≡ true
+  pub broken : (rank : ℕ) → first ≡ Some rank → (rank < upto) × (kept_by (rule_at rank) f ≡ false)
+
+-- the rank of the first broken rule: one that the used trucks tell of, or else the first one on single stacks
+abbrev pub told_rank : Option ℕ → Option Breach → Option ℕ
+told_rank (Some rank) first = Some rank
+told_rank None None = None
+told_rank None (Some b) = Some b.rank
 
 -- the place that a search found; zeros where it found none
 abbrev pub place_in : Option Place → Place
@@ -171,10 +176,14 @@ abbrev pub stack_found : Option Breach → Option Place
 stack_found None = None
 stack_found (Some b) = Some b.place
 
--- what a survey says of the loading rules: none below its rank is broken, and the rule of that rank is
+-- what a survey says of the rule that is the first broken one
+pub record BrokenAt (i : Instance) (p : List Stack) (s : Survey) (rank : ℕ) : Type 0 where
+  pub inside : rank < rule_count
+  pub on_stacks : on_stack (rule_at rank) ≡ true → Some (place_in (stack_found s.first)) ≡ lowest_in (rule_places (rule_at rank) i p)
+  pub tells : on_stack (rule_at rank) ≡ false → Tells (rule_at rank) i p s.found × (kept_by (rule_at rank) s.found ≡ false)
+
+-- what it says of the loading rules: none below its rank is broken, or none at all where it has none; and the rule of that rank is broken
 pub record SurveyOf (i : Instance) (p : List Stack) (s : Survey) : Type 0 where
-  pub within : s.rank ≤ rule_count
-  pub kept : KeptBelow i p s.rank
-  pub on_stacks : s.rank < rule_count → on_stack (rule_at s.rank) ≡ true → Some (place_in (stack_found s.first)) ≡ lowest_in (rule_places (rule_at s.rank) i p)
-  pub tells : s.rank < rule_count → on_stack (rule_at s.rank) ≡ false → Tells (rule_at s.rank) i p s.found × (kept_by (rule_at s.rank) s.found ≡ false)
+  pub kept : KeptBelow i p (unwrap_or s.rank rule_count)
+  pub broken : (rank : ℕ) → s.rank ≡ Some rank → BrokenAt i p s rank
   pub used : CountsTrucks i p s.used.count s.used.cost

@@ -11,7 +11,7 @@ ghost use Rattle.rules.specs.LoadingRules.{verdict_of, rule_places, rule_count};
 ghost use Rattle.rules.specs.declared.Rule.TheVariants.{OfPairs};
 ghost use Rattle.manifest.specs.Manifest.{manifest_at, block, OneTruck};
 ghost use Rattle.judging.specs.Judging.{with_rule, AskedBelow, joined, TellsAsked, CountsTrucks};
-ghost use Rattle.judging.specs.Judging.{pair_kept, truck_found, kept_by, all_kept, FirstRank, stack_found, SurveyOf, place_in};
+ghost use Rattle.judging.specs.Judging.{pair_kept, truck_found, kept_by, all_kept, FirstRank, told_rank, stack_found, SurveyOf, place_in};
 ghost use Rattle.stackrules.specs.StackRules.{rank_of};
 ghost use Rattle.table.specs.Held.{instance_of, stacks_of};
 
@@ -28,7 +28,7 @@ use table::Table;
 
 // ---- what is asked of the used trucks
 
-// The kinds of rules that are asked of the used trucks.
+// The kinds of rules that are asked of the used trucks. They are flags and not one kind, since several kinds are asked in one walk.
 #[derive(Clone, Copy)]
 struct Asked {
     single_pair: bool, // 17
@@ -59,7 +59,7 @@ fn with_rule(asked: Asked, rule: Rule) -> Asked
 }
 
 // The kinds of the rules below a rank. A rule that comes later need not be asked where one of that rank is broken. Most plans break none on
-// single stacks, and then everything is asked.
+// single stacks, and then everything is asked. Ranks are counted here, and the list of the rules is not walked: a rank is what is told.
 fn kinds_below(rank: usize) -> Asked
     requires { rank ≤ rule_count }
     ensures { AskedBelow rank result }
@@ -91,7 +91,8 @@ struct UsedTrucks {
     cost: u64,
 }
 
-// What the used trucks keep and break, of the kinds that were asked.
+// What the used trucks keep and break, of the kinds that were asked. What was not asked is held for kept: so the findings of two parts join
+// field by field, by `&` and the lower place, whatever was asked. What was asked is in `Asked` alone.
 #[derive(Clone, Copy)]
 struct Findings {
     single_pair: bool, // 17 is kept
@@ -263,20 +264,21 @@ fn all_kept(found: Findings) -> bool
         & found.weights.rear.is_none()
 }
 
-// The rank of the first rule that the used trucks break, of those below `upto`; `upto` where there is none, as in most plans.
-fn first_rank(found: Findings, upto: usize) -> usize
+// The rank of the first rule that the used trucks break, of those below `upto`; none in most plans. The rank is what is told, so
+// it is what is counted.
+fn first_rank(found: Findings, upto: usize) -> Option<usize>
     requires { upto ≤ rule_count }
     ensures { FirstRank found upto result }
 {
     if all_kept(found) {
-        return upto;
+        return None;
     }
     for rank in 0..upto {
         if !is_kept(rule_at(rank), found) {
-            return rank;
+            return Some(rank);
         }
     }
-    upto
+    None
 }
 
 // The lowest pair that breaks a rule. The keys and the order are scratch.
@@ -298,7 +300,8 @@ fn lowest_pair(
     first_pair(rule, manifest, order)
 }
 
-// The answer on a broken rule.
+// The answer on a broken rule. (`reading` makes its refusals by itself, as an `Err` by its enum with two places; here it is an answer by a rule's
+// verdict with three.)
 fn refuse(verdict: u32, place: Place) -> Answer
     ensures { result ≡ refusal verdict place }
 {
@@ -341,20 +344,27 @@ fn accept(table: Table<'_>, used: UsedTrucks) -> Answer
     }
 }
 
-// What the stacks and the used trucks tell of the loading rules: the rank of the first that is broken, or their number.
+// What the stacks and the used trucks tell of the loading rules. The used trucks are counted in the same walk, whatever is broken.
 #[derive(Clone, Copy)]
 struct Survey {
-    rank: usize,
+    rank: Option<usize>, // of the first broken rule
     first: Option<Breach>, // the first broken rule on single stacks
     found: Findings,
     used: UsedTrucks,
 }
 
-// The rank of a broken rule, or the number of rules.
+// The rank up to which the other rules are asked: that of a broken rule on single stacks, or the number of rules.
 fn rank_of(first: Option<Breach>) -> usize
     ensures { result ≡ rank_of first }
 {
     first.map_or(RULES, |breach| breach.rank)
+}
+
+// The rank of the first broken rule. One that the used trucks tell of comes before the first one on single stacks, since only such are asked.
+fn told_rank(before: Option<usize>, first: Option<Breach>) -> Option<usize>
+    ensures { result ≡ told_rank before first }
+{
+    before.or(first.map(|breach| breach.rank))
 }
 
 // The place of a broken rule on single stacks.
@@ -375,14 +385,16 @@ fn survey_plan(manifest: Manifest<'_>, keys: &mut [u64], along: &mut [u32]) -> S
     let upto = rank_of(first);
     let TrucksAsked { found, used } = ask_trucks(kinds_below(upto), manifest, keys, along);
     Survey {
-        rank: first_rank(found, upto),
+        rank: told_rank(first_rank(found, upto), first),
         first,
         found,
         used,
     }
 }
 
-// The verdict by the loading rules, each over the whole plan before the next. The keys and the order are scratch.
+// The verdict by the loading rules, each over the whole plan before the next. The keys and the order are scratch. They are two lent slices in
+// each function of this file that takes them, and no struct: the caller lends them, since there is no heap; all that is known of them is their
+// length beside the plan's, and no struct can keep that, since a ghost field beside a `&mut` gets no proof.
 fn judge_loading(manifest: Manifest<'_>, keys: &mut [u64], order: &mut [u32]) -> Answer
     requires { (length (stacks_of manifest.table) ≤ length keys.old) × (length (stacks_of manifest.table) ≤ length order.old) }
     ensures { result ≡ first_broken loading_rules (instance_of manifest.entry.table) (stacks_of manifest.entry.table)
@@ -390,10 +402,10 @@ fn judge_loading(manifest: Manifest<'_>, keys: &mut [u64], order: &mut [u32]) ->
         (length (used_trucks (stacks_of manifest.entry.table)))) }
 {
     let told = survey_plan(manifest, keys, order);
-    if told.rank == RULES {
+    let Some(rank) = told.rank else {
         return accept(manifest.table, told.used);
-    }
-    let rule = rule_at(told.rank);
+    };
+    let rule = rule_at(rank);
     match rule {
         Rule::OfStacks(_) => refuse_by(rule, stack_found(told.first)),
         Rule::OfPairs(pair) => refuse_by(rule, lowest_pair(pair, manifest, keys, order)),

@@ -17,6 +17,8 @@ use views::Footprint;
 
 mod along;
 
+// How stacks are placed. Where two overlap, the order is not asked and `in_order` is false: 23 comes before 25, so the plan is refused before
+// 25 has its turn.
 #[derive(Clone, Copy)]
 pub struct Placement {
     pub apart: bool, // 23: no two overlap

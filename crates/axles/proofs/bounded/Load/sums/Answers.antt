@@ -9,11 +9,11 @@ loop-k-init c = sums_start c.args.self.bounded.ordered
 
 pub overflow_add-weight : goal.overflow_add-weight
 overflow_add-weight c =
-    let next = sums_next c.args.self.bounded c.requires c.loop-k.invariant c.loop-k-test.true (search rules) c.term-term.ensures in
+    let next = sums_next c.args.self.bounded c.args.axles.bounded.twice c.loop-k.invariant c.loop-k-test.true (search rules) c.term-term.ensures in
     omega (arith, next.light)
 
 pub overflow_add-levers : goal.overflow_add-levers
-overflow_add-levers c = (sums_next c.args.self.bounded c.requires c.loop-k.invariant c.loop-k-test.true (search rules) c.term-term.ensures).fits
+overflow_add-levers c = (sums_next c.args.self.bounded c.args.axles.bounded.twice c.loop-k.invariant c.loop-k-test.true (search rules) c.term-term.ensures).fits
 
 pub loop-k-preserved : goal.loop-k-preserved
-loop-k-preserved c = (sums_next c.args.self.bounded c.requires c.loop-k.invariant c.loop-k-test.true (search rules) c.term-term.ensures).sums
+loop-k-preserved c = (sums_next c.args.self.bounded c.args.axles.bounded.twice c.loop-k.invariant c.loop-k-test.true (search rules) c.term-term.ensures).sums

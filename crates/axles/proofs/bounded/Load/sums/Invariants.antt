@@ -3,4 +3,4 @@ use Rattle.axles.proofs.Places.{SumsFrom}
 use Rattle.axles.proofs.bounded.Load.sums.Given as goal
 
 abbrev pub invariant-loop-k : goal.invariant-loop-k
-invariant-loop-k l = SumsFrom l.self.rows.now l.departure l.twice l.self.on.start l.k l.self.on.end l.weight l.levers
+invariant-loop-k l = SumsFrom l.self.rows.now l.departure l.axles.line.twice l.self.on.start l.k l.self.on.end l.weight l.levers
