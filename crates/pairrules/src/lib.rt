@@ -153,8 +153,8 @@ pub fn order_by<F: Fn(&Row) -> u32>(
     ensures lengths { (length keys.new ≡ length keys.old) × (length order.new ≡ length order.old) }
 {
     let count = on.end - on.start;
-    for k in 0..count {
-        keys[k] = field(&rows[on.start + k]) as u64;
+    for (k, row) in rows[on.start..on.end].iter().enumerate() {
+        keys[k] = field(row) as u64;
     }
     sort(&keys[..count], &mut order[..count]);
 }
@@ -195,8 +195,8 @@ pub fn first_pair(rule: PairRule, manifest: Manifest<'_>, by_number: &[u32]) -> 
     let count = manifest.table.stack_count();
     let mut found = None;
     let mut on = Block { start: 0, end: 0 };
-    'search: for k in 0..count {
-        let a = by_number[k] as usize;
+    'search: for place in &by_number[..count] {
+        let a = *place as usize;
         on = block_at(manifest.rows, a, count, on);
         for b in first_partner(rule, a, on)..on.end {
             if !pair_kept(rule, manifest, a, b) {

@@ -175,7 +175,8 @@ pub fn stack_in_range(fields: &[u32], trucks: u32) -> bool
     in_ranges(fields, &ranges)
 }
 
-// Whether one of the stacks in the first rows has this number, which is the first word of its row.
+// Whether one of the stacks in the first rows has this number, which is the first word of its row. (The rows are searched for each stack: a set of
+// numbers would take memory, and there is no heap. As the loops over words, this one is not left early.)
 #[tactic(auto, using(crate::proofs::Scan::repeated_before, crate::proofs::Scan::repeated_next))]
 pub fn is_repeated(part: &[u32], rows: usize, number: u32) -> bool
     requires { 8 * rows ≤ length part.now }
@@ -199,7 +200,8 @@ fn item_word(items: &[u32], n: u32, field: usize) -> u32
     items[row + field]
 }
 
-// The first item with the code of this one, of however many items: at the latest it is that item itself.
+// The first item with the code of this one, of however many items: at the latest it is that item itself. (The items are searched for each one: a
+// map of codes would take memory, and there is no heap.)
 fn first_of_code(items: &[u32], item: u32) -> u32
     requires { (1 ≤ item) × (16 * item ≤ length items.now) }
     ensures { (count : ℕ) → item ≤ count → result ≡ order_in (map IS (chunks 16 count items.now)) (IS (item_at items.now item)) }

@@ -8,7 +8,7 @@ use Rattle.pairrules.proofs.Search.{StacksPassed, PartnersPassed}
 use Rattle.pairrules.proofs.first_pair.Given as goal
 
 abbrev pub invariant-loop-b : goal.invariant-loop-b
-invariant-loop-b l = StacksPassed l.rule l.manifest.table.named.limits l.manifest.table.named.words.now l.manifest.rows.now l.by_number l.k × PartnersPassed l.rule l.manifest.table.named.limits l.manifest.table.named.words.now l.manifest.rows.now l.by_number l.k l.a l.on l.b × (l.found ≡ None)
+invariant-loop-b l = StacksPassed l.rule l.manifest.table.named.limits l.manifest.table.named.words.now l.manifest.rows.now l.by_number l.place-index × PartnersPassed l.rule l.manifest.table.named.limits l.manifest.table.named.words.now l.manifest.rows.now l.by_number l.place-index l.a l.on l.b × (l.found ≡ None)
 
 abbrev pub invariant-search : goal.invariant-search
-invariant-search l = StacksPassed l.rule l.manifest.table.named.limits l.manifest.table.named.words.now l.manifest.rows.now l.by_number l.k × KnownBlock l.manifest.rows.now (length (stacks_in l.manifest.table.named.limits l.manifest.table.named.words.now)) l.on × (l.found ≡ None)
+invariant-search l = StacksPassed l.rule l.manifest.table.named.limits l.manifest.table.named.words.now l.manifest.rows.now l.by_number l.place-index × KnownBlock l.manifest.rows.now (length (stacks_in l.manifest.table.named.limits l.manifest.table.named.words.now)) l.on × (l.found ≡ None)

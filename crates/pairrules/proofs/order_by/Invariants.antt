@@ -6,4 +6,4 @@ use Rattle.pairrules.proofs.Sorted.{Written}
 use Rattle.pairrules.proofs.order_by.Given as goal
 
 abbrev pub invariant-loop-k : goal.invariant-loop-k
-invariant-loop-k g l = Written (FnReturnsAt g.F.Fn l.field) l.rows l.on l.keys l.k × (length l.keys ≡ length l.initial.keys)
+invariant-loop-k g l = Written (FnReturnsAt g.F.Fn l.field) l.rows l.fn.on l.keys l.k × (length l.keys ≡ length l.initial.keys)
