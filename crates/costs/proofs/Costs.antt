@@ -1,49 +1,54 @@
--- A sum that is counted down a list, and how large the parts of the cost can be.
+-- A sum that is counted along a list, and how large the parts of the cost can be.
 use mathlib.Core.Path.{◌≡◌, refl, ap, ◌∙◌}
-use mathlib.Core.List.{List}
+use mathlib.Core.List.{List, []}
 use Prim.Native.Nat.{ℕ, ◌+◌, ◌-◌, ◌*◌, ◌≤◌, ◌<◌}
 use native.Mathlib.Nat.{le_trans, mul-le-mul}
 use native.Mathlib.Omega.{arith}
 use borrow.Author.Tests.{ne_eqb}
-use lib.ListN.{length, get_or, drop}
+use lib.ListN.{length, get_or, drop, drop_of_length-le}
 use Rattle.meaning.specs.declared.Limits.{Limits}
 use Rattle.meaning.specs.Lists.{sum}
 use Rattle.meaning.specs.Model.{Instance, Stack, item, truck_numbered, truck_of, IC, IDL, TC, TDA}
 use Rattle.meaning.specs.Table.{stacks_in}
 use Rattle.meaning.specs.Verdict.{days_early, transport_cost}
-use Rattle.meaning.proofs.Lists.{drop_back, Down, down_start, down_more, down_end}
-use Rattle.meaning.proofs.Sums.{sum_drop, sum_constant}
+use Rattle.meaning.proofs.Lists.{drop_next}
+use Rattle.meaning.proofs.Sums.{sum_constant}
 use Rattle.table.specs.Filled.{Filled}
 use Rattle.table.proofs.Access.{per_entry_most}
 use Rattle.costs.specs.Costs.{used_truck}
 
--- ---- a sum, counted down
--- the terms of the elements from j on, of which none is above its bound
+-- ---- a sum, as far as element j
+-- what is summed and the terms from j on make the whole sum, and no term is above its bound
 pub record Summed {A : Type 0} (term bound : A → ℕ) (l : List A) (j total : ℕ) : Type 0 where
-  pub down : Down (sum term) l j total
-  pub few : total ≤ sum bound (drop j l)
+  pub upto : j ≤ length l
+  pub rest : total + sum term (drop j l) ≡ sum term l
+  pub few : total + sum bound (drop j l) ≤ sum bound l
 
 module _ {A : Type 0} {term bound : A → ℕ} {l : List A} where
-  pub summed_start : {j : ℕ} → j ≡ length l → Summed term bound l j 0
-  unfolding sum
-  summed_start e = record { down = down_start e refl; few = omega arith }
+  pub summed_start : Summed term bound l 0 0
+  summed_start = record { upto = omega arith; rest = omega arith; few = omega arith }
 
-  -- one element more
-  pub summed_more : (d : A) {j total r : ℕ} → Summed term bound l j total → 0 < j → r ≡ term (get_or l (j - 1) d) → r ≤ bound (get_or l (j - 1) d)
-      → Summed term bound l (j - 1) (r + total)
-  unfolding sum
-  summed_more d {j} h k e b =
-      record {
-        down = down_more d h.down k (omega (arith, h.down.is));
-        few = omega (arith, ap (sum bound) (drop_back l j d k h.down.upto));
-      }
+  module _ (d : A) {j total r : ℕ} (h : Summed term bound l j total) (more : j < length l) (b : r ≤ bound (get_or l j d)) where
+    next_bound : sum bound (drop j l) ≡ bound (get_or l j d) + sum bound (drop (j + 1) l)
+    unfolding sum
+    next_bound = ap (sum bound) (drop_next l j d more)
 
-  pub summed_room : (d : A) {j total r : ℕ} → Summed term bound l j total → 0 < j → r ≤ bound (get_or l (j - 1) d) → r + total ≤ sum bound l
-  unfolding sum
-  summed_room d {j} h k b = omega (arith, ap (sum bound) (drop_back l j d k h.down.upto), sum_drop bound (j - 1) l)
+    -- one element more
+    pub summed_more : r ≡ term (get_or l j d) → Summed term bound l (j + 1) (total + r)
+    unfolding sum
+    summed_more e =
+        let next = ap (sum term) (drop_next l j d more) in
+        record { upto = omega arith; rest = omega (arith, next, e, h.rest); few = omega (arith, next_bound, h.few) }
 
-  pub summed_end : {j total : ℕ} → Summed term bound l j total → j ≤ 0 → (total ≡ sum term l) × (total ≤ sum bound l)
-  summed_end {j} h k = (down_end h.down k, omega (arith, sum_drop bound j l))
+    pub summed_room : total + r ≤ sum bound l
+    summed_room = omega (arith, next_bound, h.few)
+
+  pub summed_end : {j total : ℕ} → Summed term bound l j total → length l ≤ j → (total ≡ sum term l) × (total ≤ sum bound l)
+  unfolding sum
+  summed_end {j} h k =
+      let none : drop j l ≡ [] = drop_of_length-le l k in
+      let term_none : sum term (drop j l) ≡ 0 = rw none refl in
+      (omega (arith, h.rest, term_none), omega (arith, h.few))
 
 -- ---- the inventory cost
 -- "IC × (IDL − TDA)" of an item of a stack

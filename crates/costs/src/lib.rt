@@ -37,8 +37,8 @@ fn stack_inventory(table: Table<'_>, s: usize) -> u64
     let arrival = table.truck_field(table.stack_truck(s), fields::TDA);
     let items = table.load(s);
     let mut sum: u64 = 0;
-    for j in (0..items.len()).rev() {
-        sum = item_inventory(table, items[j], arrival) + sum;
+    for n in items {
+        sum += item_inventory(table, *n, arrival);
     }
     sum
 }
@@ -49,8 +49,8 @@ fn inventory_sum(table: Table<'_>) -> u64
         × (result ≤ 2614886400000) }
 {
     let mut sum: u64 = 0;
-    for s in (0..table.stack_count()).rev() {
-        sum = stack_inventory(table, s) + sum;
+    for s in 0..table.stack_count() {
+        sum += stack_inventory(table, s);
     }
     sum
 }

@@ -1,4 +1,4 @@
--- `costs::inventory_sum`: what is summed is the cost of the stacks from the current one on.
+-- `costs::inventory_sum`: what is summed is the cost of the stacks before the current one.
 use Rattle.meaning.specs.Table.{instance_in, stacks_in}
 use Rattle.meaning.specs.Verdict.{inventory_cost}
 use Rattle.costs.proofs.Costs.{Summed, stack_bound}
