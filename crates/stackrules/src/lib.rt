@@ -57,7 +57,8 @@ fn count_items(table: Table<'_>, times: &mut [u32])
     }
 }
 
-// 9 not once: the lowest item that is not loaded once, and how often it is.
+// 9 not once: the lowest item that is not loaded once, and how often it is. The walk is over places, since the number of an item is told, and
+// the lent counts may be longer than the items.
 pub fn lowest_not_once(table: Table<'_>, times: &mut [u32]) -> Option<Place>
     requires { length (instance_of table).items ≤ length times.old }
     ensures { result ≡ lowest_in (not_once (instance_of table.entry) (stacks_of table.entry)) }
@@ -202,8 +203,8 @@ impl<'a> ListedStack<'a> {
         self.manifest.rows[self.at]
     }
 
-    // 16 docks, S2 and S3: one plant dock; where the truck's flag is set also two, if they are consecutive. The flag is the file's 1
-    // (document 01), read here alone.
+    // 16 docks, S2 and S3: one plant dock; where the truck's flag is set also two, if they are consecutive. A set flag is the
+    // file's 1 (document 01), which is read here alone.
     fn docks_place(self) -> Option<Place>
         ensures { result ≡ lowest_in (own_places OwnRule.Docks (instance_of self.entry.manifest.table) (listed_stack self.entry)) }
     {
@@ -341,7 +342,7 @@ impl<'a> ListedStack<'a> {
         }
     }
 
-    // The first rule that the stack breaks by itself or with its item n.
+    // The first rule that the stack breaks by itself or with its item n. The walk is over ranks, since the rank is told.
     fn breach_with_item(self, n: u32) -> Option<Breach>
         requires { ItemNumber (instance_of self.manifest.table) n }
         ensures { FirstOf (with_item (instance_of self.entry.manifest.table) (listed_stack self.entry) n) result }

@@ -285,7 +285,8 @@ impl<'a> StackLoad<'a> {
         false
     }
 
-    // How many plant docks there are. A dock is counted at the last item that has it.
+    // How many plant docks there are. A dock is counted at the last item that has it. The walk is over places, since the items above one are
+    // the rest of the load.
     pub fn plant_dock_count(self) -> u32
         ensures { (result ≡ plant_dock_count (instance_of self.entry.table) (load_only self.entry.items.now)) × (result ≤ 64) }
     {
