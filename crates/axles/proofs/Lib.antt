@@ -1,5 +1,5 @@
 pub mod Signed
-pub mod Places
+pub mod Walks
 pub mod Rows
 pub mod Departures
 pub mod Amounts

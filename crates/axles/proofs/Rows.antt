@@ -5,39 +5,55 @@ use mathlib.Core.List.{List, [], ◌∷◌, map}
 use Prim.Native.Nat.{ℕ, zero, suc, ◌+◌, ◌-◌, ◌*◌, ◌≤◌, ◌<◌}
 use native.Mathlib.Omega.{arith}
 use lib.IntN.{◌+ℤ◌}
-use lib.ListN.{length, take, drop}
+use lib.ListN.{length, get_or, take, drop}
 use lib.Seq.{drop-cons}
+use Rattle.std.proofs.lemmas.List.{get_or-take, get_or-drop}
 use Rattle.meaning.specs.declared.Limits.{Limits}
-use Rattle.meaning.specs.Lists.{any, filter, up_from, order_from, between, sum, sumℤ, Every}
+use Rattle.meaning.specs.Lists.{any, filter, up_from, order_from, between, sum, sumℤ}
 use Rattle.meaning.specs.Model.{Instance, Truck, Stack, truck_numbered}
 use Rattle.meaning.specs.Measures.{UsedTruck, used_by, supplier_order, sm, lever}
 use Rattle.meaning.specs.Rules.{counts}
 use Rattle.meaning.specs.Table.{instance_in, stacks_in}
-use Rattle.meaning.proofs.Lists.{every_reads, in_up_from}
+use Rattle.meaning.proofs.Lists.{every_reads}
 use Rattle.meaning.proofs.Sums.{sum_take, sum_drop, sum_below}
 use Rattle.meaning.proofs.Permute.{sum_perm}
 use Rattle.table.specs.Filled.{Filled, TruckNumber, no_stack}
 use Rattle.table.proofs.Access.{stacks_in_lem, truck_in_lem, per_entry_most, stack_weight}
 use Rattle.table.proofs.Bounds.{truck_most_lem}
 use Rattle.views.specs.Views.{rank_of}
-use Rattle.manifest.specs.Manifest.{manifest_at, in_manifest, row_at, HoldsRows, OneTruck}
+use Rattle.manifest.specs.Manifest.{manifest_order, manifest_at, in_manifest, block, row_of, row_at, no_row, HoldsRows, OneTruck}
 use Rattle.manifest.specs.declared.Block.{Block}
 use Rattle.manifest.specs.declared.row.Row.{Row}
 use Rattle.manifest.proofs.Order.{manifest_length, manifest_at_lem, manifest_perm}
 use Rattle.manifest.proofs.Reading.{row_is, row_most, truck_is}
-use Rattle.axles.specs.Weights.{places_from, is_on, weight_of, lever_by, levers_of, BoundedRows, axle_data, BoundedAxles}
+use Rattle.axles.specs.Weights.{is_on, on_at, weight_of, lever_by, levers_of, BoundedRows, axle_data, BoundedAxles}
 
--- ---- lists of places
+-- ---- lists that are made of other lists
 map_if : {A B : Type 0} (f : A → B) (b : Bool) (a : A) (l : List A) → map f (cond b (a ∷ l) l) ≡ cond b (f a ∷ map f l) (map f l)
 map_if f true a l = refl
 map_if f false a l = refl
 
-pub counts_if : {A : Type 0} (f : A → Stack) (test : A → Bool) (l : List A) → any test l ≡ counts (map f (filter test l))
+filter_map : {A B : Type 0} (f : A → B) (test : B → Bool) (l : List A) → filter test (map f l) ≡ map f (filter (λ a. test (f a)) l)
+unfolding filter
+filter_map f test [] = refl
+filter_map f test (a ∷ l) = rw (filter_map f test l, map_if f (test (f a)) a (filter (λ a. test (f a)) l)) refl
+
+take_most : {A : Type 0} (n : ℕ) (l : List A) → length (take n l) ≤ n
+take_most zero l = omega arith
+take_most (suc n) [] = omega arith
+take_most (suc n) (a ∷ l) = omega (arith, take_most n l)
+
+-- a departure counts where a stack is on
+pub counts_if : {A : Type 0} (f : A → Row) (g : A → Stack) (test : Row → Bool) (l : List A)
+    → any test (map f l) ≡ counts (map g (filter (λ a. test (f a)) l))
 unfolding any filter
-counts_if f test [] = refl
-counts_if f test (a ∷ l) = go (test a) (counts_if f test l)
+counts_if f g test [] = refl
+counts_if {A} f g test (a ∷ l) = go (test (f a)) (counts_if f g test l)
   where
-    go : (b : Bool) → any test l ≡ counts (map f (filter test l)) → (b || any test l) ≡ counts (map f (cond b (a ∷ filter test l) (filter test l)))
+    on : List A
+    on = filter (λ a. test (f a)) l
+
+    go : (b : Bool) → any test (map f l) ≡ counts (map g on) → (b || any test (map f l)) ≡ counts (map g (cond b (a ∷ on) on))
     go true e = refl
     go false e = e
 
@@ -74,37 +90,40 @@ module _ {m : Limits} {t : List ℕ} {rows : List Row} (h : HoldsRows m t rows) 
   abbrev p : List Stack
   p = stacks_in m t
 
-  -- places of stacks
-  abbrev pub Inside : List ℕ → Type 0
-  Inside places = Every (λ k. k < length p) places
+  -- the row of the stack at place k of the manifest
+  abbrev pub nth_row : ℕ → Row
+  nth_row k = row_of i p (get_or (manifest_order p) k 0)
 
-  pub from_inside : {end : ℕ} (k : ℕ) → end ≤ length p → Inside (places_from k end)
-  from_inside {end} k l = (every_reads (λ j. j < length p) (places_from k end)).1 (λ j e. omega (arith, (in_up_from k (end - k) j).0 e))
+  -- the rows of a block, by its places
+  pub block_rows : (k n : ℕ) → k + n ≤ length p → take n (drop k rows) ≡ map nth_row (up_from k n)
+  unfolding up_from
+  block_rows k zero l = refl
+  block_rows k (suc n) l =
+      rw (drop-cons rows k no_row (omega (arith, h.room))) (ap₂ ◌∷◌ (row_is h k (omega arith)) (block_rows (suc k) n (omega arith)))
 
   -- ---- sums over rows are sums over stacks
-  pub weights_are : (places : List ℕ) → Inside places → weight_of rows places ≡ sum (sm i) (map (manifest_at p) places)
+  pub weights_are : (places : List ℕ) → weight_of (map nth_row places) ≡ sum (sm i) (map (manifest_at p) places)
   unfolding sum
-  weights_are [] all = refl
-  weights_are (k ∷ places) all = ap₂ ◌+◌ (ap (λ (r : Row). r.weight) (row_is h k all.0)) (weights_are places all.1)
+  weights_are [] = refl
+  weights_are (k ∷ places) = ap (λ n. sm i (manifest_at p k) + n) (weights_are places)
 
-  pub levers_are : (truck : Truck) (places : List ℕ) → Inside places
-      → levers_of rows (axle_data truck).twice places ≡ sumℤ (lever i truck) (map (manifest_at p) places)
+  pub levers_are : (truck : Truck) (places : List ℕ) → levers_of (axle_data truck).twice (map nth_row places) ≡ sumℤ (lever i truck) (map (manifest_at p) places)
   unfolding sumℤ lever_by lever
-  levers_are truck [] all = refl
-  levers_are truck (k ∷ places) all =
-      ap₂ ◌+ℤ◌ (ap (λ (r : Row). lever_by r.weight r.footprint.x r.footprint.xe (axle_data truck).twice) (row_is h k all.0)) (levers_are truck places all.1)
+  levers_are truck [] = refl
+  levers_are truck (k ∷ places) = ap (λ z. lever i truck (manifest_at p k) +ℤ z) (levers_are truck places)
 
   -- ---- which are on
-  order_is : (k : ℕ) → k < length p → (row_at rows k).rank.supplier_order ≡ supplier_order i (manifest_at p k)
-  unfolding rank_of order_from
-  order_is k inside = ap (λ (r : Row). r.rank.supplier_order) (row_is h k inside)
+  -- the places of those that are
+  abbrev pub on_places : ℕ → List ℕ → List ℕ
+  on_places departure places = filter (λ k. is_on departure (nth_row k)) places
 
-  pub on_are : (departure : ℕ) (places : List ℕ) → Inside places
-      → filter (λ (s : Stack). between 1 departure (supplier_order i s)) (map (manifest_at p) places) ≡ map (manifest_at p) (filter (is_on rows departure) places)
-  unfolding filter
-  on_are departure [] all = refl
-  on_are departure (k ∷ places) all =
-      rw (order_is k all.0, on_are departure places all.1, map_if (manifest_at p)) refl
+  pub on_rows : (departure : ℕ) (places : List ℕ) → on_at departure (map nth_row places) ≡ map nth_row (on_places departure places)
+  on_rows departure places = filter_map nth_row (is_on departure) places
+
+  pub on_stacks : (departure : ℕ) (places : List ℕ)
+      → filter (λ (s : Stack). between 1 departure (supplier_order i s)) (map (manifest_at p) places) ≡ map (manifest_at p) (on_places departure places)
+  unfolding rank_of order_from
+  on_stacks departure places = filter_map (manifest_at p) (λ (s : Stack). between 1 departure (supplier_order i s)) places
 
   plan_weight : sum (sm i) p ≤ 3276800000
   plan_weight =
@@ -114,18 +133,36 @@ module _ {m : Limits} {t : List ℕ} {rows : List Row} (h : HoldsRows m t rows) 
 
   module _ {on : Block} (one : OneTruck p on.start on.end) where
     -- ---- the stacks of a used truck
-    pub rows_bounded : BoundedRows rows on
+    -- their rows
+    abbrev pub loaded : List Row
+    loaded = take (on.end - on.start) (drop on.start rows)
+
+    -- and their places in the manifest
+    abbrev pub places : List ℕ
+    places = up_from on.start (on.end - on.start)
+
+    pub loaded_rows : loaded ≡ map nth_row places
+    loaded_rows = block_rows on.start (on.end - on.start) (omega (arith, one.some, one.within))
+
+    pub loaded_stacks : block p on.start on.end ≡ map (manifest_at p) places
+    loaded_stacks = block_places p on.start (on.end - on.start) (omega (arith, one.some, one.within))
+
+    row_there : (k : ℕ) → k < length loaded → (k < on.end - on.start) × (row_at rows (on.start + k) ≡ row_at loaded k)
+    row_there k inside =
+        let within : k < on.end - on.start = omega (arith, inside, take_most (on.end - on.start) (drop on.start rows)) in
+        (within, sym (get_or-take (on.end - on.start) (drop on.start rows) k no_row within ∙ get_or-drop on.start rows k no_row))
+
+    pub rows_bounded : BoundedRows loaded
     rows_bounded =
         record {
-          ordered = omega (arith, one.some);
-          room = omega (arith, h.room, one.within);
           each = λ k inside.
-              let most = row_most h k (omega (arith, one.within)) in
-              record { weight = most.weight; x = most.x; xe = most.xe };
-          weights = λ k upto.
-              let n = on.end - k in
-              let is = weights_are (places_from k on.end) (from_inside k one.within) ∙ ap (sum (sm i)) (sym (block_places p k n (omega (arith, one.within)))) in
-              omega (arith, is, plan_weight, sum_perm (sm i) (manifest_perm p), sum_drop (sm i) k (in_manifest p), sum_take (sm i) n (drop k (in_manifest p)));
+              let there = row_there k inside in
+              let most = row_most h (on.start + k) (omega (arith, there.0, one.within)) in
+              rw (← there.1) (record { weight = most.weight; x = most.x; xe = most.xe });
+          weight =
+              let n = on.end - on.start in
+              let is = ap weight_of loaded_rows ∙ weights_are places ∙ ap (sum (sm i)) (sym loaded_stacks) in
+              omega (arith, is, plan_weight, sum_perm (sm i) (manifest_perm p), sum_drop (sm i) on.start (in_manifest p), sum_take (sm i) n (drop on.start (in_manifest p)));
         }
 
     -- the first row has the truck and the copy of all

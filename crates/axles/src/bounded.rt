@@ -4,14 +4,13 @@ ghost use Rattle.axles.specs.Weights.{BoundedAxles, BoundedRows};
 ghost use Rattle.axles.specs.Props.{axles_prop, rows_prop};
 
 use crate::AxleData;
-use manifest::{Block, Row};
+use manifest::Row;
 
-// The stacks of a used truck: the rows of a manifest, and their block in them.
+// The stacks of a used truck, by their rows.
 #[derive(Clone, Copy)]
 pub struct Load<'a> {
     pub rows: &'a [Row],
-    pub on: Block,
-    pub ghost bounded: { BoundedRows rows.now on } by { rows_prop rows.now on },
+    pub ghost bounded: { BoundedRows rows.now } by { rows_prop rows.now },
 }
 
 // The axles of its truck, by what its line says of them.

@@ -7,12 +7,12 @@ ghost use Rattle.meaning.specs.Lists.{any};
 ghost use Rattle.meaning.specs.Model.{truck_numbered};
 ghost use Rattle.table.specs.Filled.{TruckNumber};
 ghost use Rattle.manifest.specs.Manifest.{block, OneTruck};
-ghost use Rattle.axles.specs.Weights.{places_of, is_on, on_at, weight_at, lever_at, weight_of, levers_of, lever_by};
+ghost use Rattle.axles.specs.Weights.{is_on, on_at, weight_of, lever_of, levers_of, lever_by, BoundedRow};
 ghost use Rattle.axles.specs.Weights.{axle_data, moment_by, middle_holds, rear_holds, middle_under, rear_under, exceeds, LowestPlaces};
 ghost use Rattle.table.specs.Held.{instance_of, stacks_of};
 
 use bounded::{Axles, Load};
-use manifest::{Block, Manifest};
+use manifest::{Block, Manifest, Row};
 use meaning::Place;
 use search::{lower_of, place_if};
 use table::Table;
@@ -120,54 +120,25 @@ struct Sums {
 
 // ---- the stacks of a used truck
 
-impl<'a> Load<'a> {
-    // Whether the stack at place k is on at a departure: its supplier is one of the first so many.
-    fn is_on(self, departure: u32, k: usize) -> bool
-        requires { k < self.on.end }
-        ensures { result ≡ is_on self.entry.rows.now departure k }
-    {
-        let order = self.rows[k].rank.supplier_order;
-        (1 <= order) & (order <= departure)
-    }
+// Whether a stack is on at a departure: its supplier is one of the first so many.
+fn is_on(row: &Row, departure: u32) -> bool
+    ensures { result ≡ is_on departure row.now }
+{
+    let order = row.rank.supplier_order;
+    (1 <= order) & (order <= departure)
+}
 
-    // Whether a departure counts, which it does where a stack is on.
-    fn departure_counts(self, departure: u32) -> bool
-        ensures { result ≡ any (is_on self.entry.rows.now departure) (places_of self.entry.on) }
-    {
-        for k in self.on.start..self.on.end {
-            if self.is_on(departure, k) {
-                return true;
-            }
-        }
-        false
-    }
-
-    // The weight of all stacks, whatever their supplier.
-    fn total_weight(self) -> u64
-        ensures { result ≡ weight_of self.entry.rows.now (places_of self.entry.on) }
-    {
-        let mut weight: u64 = 0;
-        for k in (self.on.start..self.on.end).rev() {
-            weight = (self.rows[k].weight as u64) + weight;
-        }
-        weight
-    }
-
-    // The terms of the stack at place k in both sums: nothing where it is not on. Its lever is worked out first, so that the sum does not
+impl Axles {
+    // The terms of a stack in both sums at a departure: nothing where it is not on. Its lever is worked out first, so that the sum does not
     // branch: which stacks are on has no pattern that a processor could foresee.
-    fn term(self, departure: u32, axles: Axles, k: usize) -> Sums
-        requires { k < self.on.end }
-        ensures { (result.weight ≡ cond (is_on self.entry.rows.now departure k) (weight_at self.entry.rows.now k) 0)
-            × (result.levers ≡ cond (is_on self.entry.rows.now departure k) (lever_at self.entry.rows.now axles.line.twice k) (pos 0)) }
+    fn term(self, departure: u32, row: &Row) -> Sums
+        requires { BoundedRow row.now }
+        ensures { (result.weight ≡ cond (is_on departure row.now) row.now.weight 0)
+            × (result.levers ≡ cond (is_on departure row.now) (lever_of self.line.twice row.now) (pos 0)) }
     {
-        let row = self.rows[k];
-        let levers = lever_by(
-            row.weight,
-            row.footprint.x,
-            row.footprint.xe,
-            axles.line.twice,
-        );
-        if self.is_on(departure, k) {
+        let ground = row.footprint;
+        let levers = lever_by(row.weight, ground.x, ground.xe, self.line.twice);
+        if is_on(row, departure) {
             return Sums {
                 weight: row.weight as u64,
                 levers,
@@ -178,26 +149,52 @@ impl<'a> Load<'a> {
             levers: 0,
         }
     }
+}
+
+impl<'a> Load<'a> {
+    // Whether a departure counts, which it does where a stack is on.
+    fn departure_counts(self, departure: u32) -> bool
+        ensures { result ≡ any (is_on departure) self.entry.rows.now }
+    {
+        for row in self.rows {
+            if is_on(row, departure) {
+                return true;
+            }
+        }
+        false
+    }
+
+    // The weight of all stacks, whatever their supplier.
+    fn total_weight(self) -> u64
+        ensures { result ≡ weight_of self.entry.rows.now }
+    {
+        let mut weight: u64 = 0;
+        for row in self.rows {
+            weight += row.weight as u64;
+        }
+        weight
+    }
 
     // Both sums of the stacks that are on at a departure.
     fn sums(self, departure: u32, axles: Axles) -> Sums
-        ensures { (result.weight ≡ weight_of self.entry.rows.now (on_at self.entry.rows.now departure self.entry.on))
-            × (result.levers ≡ levers_of self.entry.rows.now axles.line.twice (on_at self.entry.rows.now departure self.entry.on)) }
+        ensures { (result.weight ≡ weight_of (on_at departure self.entry.rows.now))
+            × (result.levers ≡ levers_of axles.line.twice (on_at departure self.entry.rows.now))
+            × (result.weight ≤ 3276800000) × (nat_abs result.levers ≤ 262144000000000) }
     {
         let mut weight: u64 = 0;
         let mut levers: i64 = 0;
-        for k in (self.on.start..self.on.end).rev() {
-            let term = self.term(departure, axles, k);
-            weight = term.weight + weight;
-            levers = term.levers + levers;
+        for row in self.rows {
+            let term = axles.term(departure, row);
+            weight += term.weight;
+            levers += term.levers;
         }
         Sums { weight, levers }
     }
 
     // W2: which axles do not hold at a departure that counts. Most axles hold, so whether it counts is asked only where one does not.
     fn exceeded(self, departure: u32, axles: Axles) -> Exceeded
-        ensures { (result.middle ≡ exceeds middle_under self.entry.rows.now self.entry.on axles.line departure)
-            × (result.rear ≡ exceeds rear_under self.entry.rows.now self.entry.on axles.line departure) }
+        ensures { (result.middle ≡ exceeds middle_under self.entry.rows.now axles.line departure)
+            × (result.rear ≡ exceeds rear_under self.entry.rows.now axles.line departure) }
     {
         let sums = self.sums(departure, axles);
         let h = axles.moment(sums.levers);
@@ -235,8 +232,7 @@ pub fn truck_weights(manifest: Manifest<'_>, on: Block) -> WeightPlaces
     let truck = manifest.rows[on.start].truck;
     let copy = manifest.rows[on.start].copy;
     let load = Load {
-        rows: manifest.rows,
-        on,
+        rows: &manifest.rows[on.start..on.end],
     };
     let within = load.total_weight() <= (manifest.table.truck_field(truck, LOAD_LIMIT) as u64);
     let axles = Axles {

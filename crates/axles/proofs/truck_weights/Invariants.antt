@@ -6,5 +6,5 @@ use Rattle.axles.proofs.truck_weights.Given as goal
 
 abbrev pub invariant-loop-before : goal.invariant-loop-before
 invariant-loop-before l = let u : UsedTruck = record { truck = l.truck; copy = l.copy } in
-    AxleFrom middle_under l.manifest.rows.now l.fn.on l.axles.0 u l.initial.before l.before l.middle
-    × AxleFrom rear_under l.manifest.rows.now l.fn.on l.axles.0 u l.initial.before l.before l.rear
+    AxleFrom middle_under l.load.0.now l.axles.0 u l.initial.before l.before l.middle
+    × AxleFrom rear_under l.load.0.now l.axles.0 u l.initial.before l.before l.rear
