@@ -1,11 +1,12 @@
 -- A loop over a list that is left at the first element which fails a test: what it has passed does not decide any more.
 use mathlib.Core.Path.{◌≡◌, refl, sym, ap, ap₂, ◌∙◌}
 use mathlib.Core.Bool.{Bool, true, false, ◌&&◌}
-use mathlib.Core.List.{List, ◌++◌}
+use mathlib.Core.List.{List, ◌∷◌, ◌++◌}
 use Prim.Native.Nat.{ℕ, zero, suc, ◌+◌, ◌*◌, ◌≤◌, ◌<◌}
+use native.Mathlib.Numerals.{add-one}
 use native.Mathlib.Omega.{arith}
-use lib.ListN.{length, get_or, drop, length-append, drop_of_length-le}
-use lib.Seq.{take_at, drop_at}
+use lib.ListN.{length, get_or, take, drop, length-append, length-drop, drop_of_length-le}
+use lib.Seq.{take_at, drop_at, drop-drop}
 use Rattle.meaning.specs.Lists.{all, chunks, up_from}
 use Rattle.meaning.proofs.Lists.{drop_next, length_up_from, up_from_at}
 
@@ -95,3 +96,26 @@ module _ {test : ℕ → Bool} (n : ℕ) {k : ℕ} (h : Passed test (up_from 0 n
 
   pub places_passed : {r later : Bool} → n ≤ k → r ≡ later → r ≡ (all test (up_from 0 n) && later)
   places_passed e told = and_passed (passed_all h (omega (arith, length_up_from 0 n))) told
+
+-- ---- a list and rows of w words side by side, of which k have passed
+module _ (k : ℕ) (l : List ℕ) {left behind : List ℕ} {x : ℕ} (at : left ≡ drop k l) (next : left ≡ x ∷ behind) where
+  pub more_listed : k < length l
+  more_listed = omega (arith, ap length (sym next ∙ at), length-drop k l)
+
+  same_rest : x ∷ behind ≡ get_or l k 0 ∷ drop (k + 1) l
+  same_rest = sym next ∙ at ∙ drop_next l k 0 more_listed
+
+  pub listed_here : x ≡ get_or l k 0
+  listed_here = ap (λ (r : List ℕ). get_or r 0 0) same_rest
+
+  pub listed_later : behind ≡ drop (k + 1) l
+  listed_later = ap (drop 1) same_rest
+
+module _ (w k : ℕ) (rows row behind : List ℕ) {left : List ℕ} (at : left ≡ drop (w * k) rows) (cut : left ≡ row ++ behind) (wide : length row ≡ w) where
+  pub row_here : row ≡ take w (drop (w * k) rows)
+  row_here = sym (take_at row behind w wide) ∙ ap (take w) (sym cut ∙ at)
+
+  pub row_later : behind ≡ drop (w * (k + 1)) rows
+  row_later =
+      let e : w * suc k ≡ w * k + w = omega arith in
+      sym (drop_at row behind w wide) ∙ ap (drop w) (sym cut ∙ at) ∙ drop-drop w (w * k) rows ∙ ap (λ (j : ℕ). drop j rows) (sym e) ∙ ap (λ (j : ℕ). drop (w * j) rows) (sym (add-one k))

@@ -96,9 +96,9 @@ fn docks_stored(suppliers: usize, counts: &[u32], rows: &[u32]) -> bool
     requires { (suppliers ≤ length counts.now) × (length rows.now ≡ 8 * length counts.now) }
     ensures { result ≡ docks_stored suppliers counts.now rows.now }
 {
-    for k in 0..suppliers {
-        let first = SUPPLIER_DOCKS * k;
-        if !entries_stored(counts[k], &rows[first..first + SUPPLIER_DOCKS]) {
+    let listed = counts[..suppliers].iter();
+    for (count, row) in listed.zip(rows.chunks_exact(SUPPLIER_DOCKS)) {
+        if !entries_stored(*count, row) {
             return false;
         }
     }
