@@ -1,7 +1,7 @@
 -- Tests over the words from an index on: what a word decides of them, and how they end.
 use mathlib.Core.Path.{◌≡◌, refl, sym, ap, ◌∙◌}
 use mathlib.Core.Bool.{Bool, true, false, ◌&&◌, ◌||◌, and-true, and_assoc, or_comm}
-use mathlib.Core.List.{List, [], ◌∷◌, ◌++◌}
+use mathlib.Core.List.{List, [], ◌∷◌}
 use Prim.Native.Nat.{ℕ, ◌+◌, ◌-◌, ◌*◌, ◌≤◌, ◌<◌}
 use native.Mathlib.Numerals.{add-one}
 use native.Mathlib.Omega.{arith}
@@ -12,25 +12,21 @@ use lib.Seq.{drop-cons}
 use Rattle.meaning.specs.Lists.{all, any, between, listed, distinct, order_from}
 use Rattle.meaning.specs.Files.{all_within}
 use Rattle.meaning.proofs.Lists.{drop_next}
-use Rattle.std.proofs.lemmas.List.{take_more, take_rest}
+use Rattle.std.proofs.lemmas.List.{take_rest}
 use Rattle.std.specs.Prelude.{fold}
 use Rattle.std.specs.List.{zip}
 use Rattle.ranges.specs.declared.Range.{Range as InCode}
 use Rattle.ranges.specs.Ranges.{ranges_of, row_numbers}
 
--- ---- the words up to an index, and the word there
-all_append : (test : ℕ → Bool) (l r : List ℕ) → all test (l ++ r) ≡ (all test l && all test r)
+-- ---- words in one range
+all_from : (test : ℕ → Bool) (inside : Bool) (ws : List ℕ) → fold (λ inside w. inside && test w) inside ws ≡ (inside && all test ws)
 unfolding all
-all_append test [] r = refl
-all_append test (n ∷ l) r = ap (λ (b : Bool). test n && b) (all_append test l r) ∙ sym (and_assoc (test n) (all test l) (all test r))
+all_from test inside [] = sym (and-true inside)
+all_from test inside (w ∷ ws) = all_from test (inside && test w) ws ∙ and_assoc inside (test w) (all test ws)
 
--- a test of the words passed and of the next one
-pub all_next : (test : ℕ → Bool) (ws : List ℕ) (i : ℕ) {inside : Bool} → i < length ws → inside ≡ all test (take i ws)
-    → (inside && test (get_or ws i 0)) ≡ all test (take (i + 1) ws)
-unfolding all
-all_next test ws i h e =
-    let x = get_or ws i 0 in
-    rw (e, take_more ws i 0 h, all_append test (take i ws) (x ∷ []), and-true (test x)) refl
+pub all_folded : (low high : ℕ) (ws : List ℕ) {inside : Bool} → inside ≡ fold (λ inside w. inside && between low high w) true ws
+    → inside ≡ all (between low high) ws
+all_folded low high ws e = e ∙ all_from (between low high) true ws
 
 -- ---- words in the ranges of a table
 within_from : (ws : List ℕ) (rs : List InCode) (inside : Bool) → length ws ≤ length rs
