@@ -394,7 +394,7 @@ fn survey_plan(manifest: Manifest<'_>, keys: &mut [u64], along: &mut [u32]) -> S
 
 // The verdict by the loading rules, each over the whole plan before the next. The keys and the order are scratch. They are two lent slices in
 // each function of this file that takes them, and no struct: the caller lends them, since there is no heap; all that is known of them is their
-// length beside the plan's, and no struct can keep that, since a ghost field beside a `&mut` gets no proof.
+// length beside the plan's, which a struct of both would have to be shown again each time it is made.
 fn judge_loading(manifest: Manifest<'_>, keys: &mut [u64], order: &mut [u32]) -> Answer
     requires { (length (stacks_of manifest.table) ≤ length keys.old) × (length (stacks_of manifest.table) ≤ length order.old) }
     ensures { result ≡ first_broken loading_rules (instance_of manifest.entry.table) (stacks_of manifest.entry.table)
