@@ -1,7 +1,7 @@
 // One line of a file: where it ends, its key, its value, and the value's numbers as 32-bit words.
 #![tactic(auto)]
 
-ghost use Rattle.std.specs.Prelude.{◌≡◌, ◌==◌, position, ◌+◌, ◌≤◌, length, drop};
+ghost use Rattle.std.specs.Prelude.{◌≡◌, ◌+◌, ◌≤◌, length, drop};
 ghost use Rattle.std.proofs.lemmas.List.Edits.{sets};
 ghost use Rattle.meaning.specs.Text.{count_before, numbers, comma_parts, value_after};
 ghost use Rattle.text.specs.Words.{lent, parsed_part, parsed_numbers, leading, parsed_line, line_words, one_of};
@@ -10,21 +10,17 @@ ghost use Rattle.text.specs.Words.{lent, parsed_part, parsed_numbers, leading, p
 const MOST_DIGITS: usize = 10;
 
 // The index of the first such byte from `from` on; the length where there is none, and `from` where that is past the end. (No Option: a line ends there
-// either way, and `index_of` tells whether there is one.)
+// either way. It goes over indices and not by the library's `position` over the rest, whose answer `from` would be added to: where lines are short, each
+// line would wait for that sum of the one before, and finding a line took up to twice as long.)
 pub fn first_byte(bytes: &[u8], from: usize, byte: u8) -> usize
     ensures { result ≡ from + count_before byte (drop from bytes.now) }
 {
-    match bytes.get(from..) {
-        Some(rest) => from + index_of(rest, byte).unwrap_or(rest.len()),
-        None => from,
+    for at in from..bytes.len() {
+        if bytes[at] == byte {
+            return at;
+        }
     }
-}
-
-// The index of the first such byte, if there is one.
-fn index_of(bytes: &[u8], byte: u8) -> Option<usize>
-    ensures { result ≡ position (λ b. b == byte) bytes.now }
-{
-    bytes.iter().position(|b| *b == byte)
+    from.max(bytes.len())
 }
 
 // Whether one of the eight bytes from `at` on ends a line. There is no branch between them, so that the compiler makes one comparison of all eight.

@@ -1,13 +1,19 @@
--- The library's search stops before the first such byte, or behind the last byte.
-use Rattle.std.proofs.Common.{◌≡◌, ◌∙◌, arith, drop}
-use Rattle.text.proofs.Bytes.{take_rest, found_or_end, count_end}
+-- Counted from `at` on, the byte is found at the same index as counted from `from` on.
+use native.Mathlib.Omega.{arith}
+use Rattle.text.proofs.Bytes.{count_at, count_end}
 use Rattle.text.proofs.first_byte.Goals as goal
 
-pub returns-in-Some : goal.returns-in-Some
-returns-in-Some c =
-    let bytes = c.args.bytes.now in
-    let rest : c.in-Some.rest.now ≡ drop c.args.from bytes = c.in-Some.ensures.lookup.0.2 ∙ take_rest bytes c.args.from in
-    rw (c.unwrap_or.ensures, found_or_end c.args.byte c.in-Some.rest.now c.index_of.ensures, rest)
+pub returns-then-bytes-at : goal.returns-then-bytes-at
+returns-then-bytes-at c =
+    let a = c.args in
+    omega (arith, (count_at a.byte a.bytes.now c.loop-at.at (omega arith)).0 c.if-bytes-at.true, c.loop-at.invariant.0)
 
-pub returns-in-None : goal.returns-in-None
-returns-in-None c = omega (arith, c.in-None.ensures.lookup, count_end c.args.byte c.args.bytes.now c.args.from (omega (arith, c.in-None.ensures.lookup)))
+pub loop-at-preserved : goal.loop-at-preserved
+loop-at-preserved c =
+    let a = c.args in
+    (omega (arith, (count_at a.byte a.bytes.now c.loop-at.at (omega arith)).1 c.if-bytes-at.false, c.loop-at.invariant.0), omega arith)
+
+pub returns : goal.returns
+returns c =
+    let a = c.args in
+    omega (arith, count_end a.byte a.bytes.now c.loop-at.at (omega arith), c.loop-at.invariant, c.max.ensures)
